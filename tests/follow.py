@@ -126,6 +126,31 @@ def a_store_that_stands_still(room):
 
 
 @case
+def an_index(room):
+    """From a place behind 1,024 records it begins at a mark of the index, which it makes where there is none."""
+    bundles, marks = pushes(2_100), stamps(2_100)
+    data, ends = store_of(bundles, stamps=marks)
+    room.store(data)
+    for _ in range(2):
+        follower = Follower(room, "--from", "2090")
+        follower.has(frames_of(bundles, marks, 2_090))
+        follower.waits()
+        follower.end()
+        want("the marks of the index", len(found_in(room.path("store"))["pushes.index"]), 28 + 3 * 36)
+    room.store(data[:ends[2_060]] + SHUT)
+    follower = Follower(room, "--from", "2050")
+    follower.has(frames_of(bundles[:2_060], marks, 2_050))
+    with open(room.path("store/pushes"), "r+b") as file:
+        file.seek(ends[2_060] + 1)
+        file.write(data[ends[2_060] + 1:])
+        file.flush()
+        file.seek(ends[2_060])
+        file.write(data[ends[2_060]:ends[2_060] + 1])
+    follower.has(frames_of(bundles, marks, 2_060))
+    follower.end()
+
+
+@case
 def many_records(room):
     """More records than are found before one sync, and larger ones."""
     bundles = pushes(3000) + [bundle((b"note", (), bytes(3_000_000))) for _ in range(4)]

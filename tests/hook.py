@@ -984,7 +984,7 @@ def try_waiting(results, asked, repo, before):
 
 # ---- How long a push of 1,000 changesets takes
 
-CHANGESETS, TRACKED, TURNS = 1000, 1000, 3
+CHANGESETS, TRACKED, TURNS = 1000, 1000, 5
 
 
 def push_of_many(place):
@@ -1046,7 +1046,9 @@ def try_speed(results, place):
             ["hg", "-R", first, "--config", f"extensions.hook={TOP}/mirror/hook.py", "hook", "--listen", "127.0.0.1:0",
              "--rules", f"{TOP}/mirror/rules.py"], "/", data, {"x-push-durable": "0"}, b"may run"))
     results.see("both took the push", all(by_serve + by_hook), (by_serve, by_hook))
-    results.see("the hook is as fast as hg serve", min(by_hook) <= min(by_serve), (by_serve, by_hook))
+    # seconds of the processor are counted in steps of this length
+    step = 1 / os.sysconf("SC_CLK_TCK")
+    results.see("the hook is as fast as hg serve", min(by_hook) <= min(by_serve) + 2 * step, (by_serve, by_hook))
     return (f"{CHANGESETS:,} changesets of {TRACKED:,} files: {min(by_hook):.2f} s of the processor, and "
             f"{min(by_serve):.2f} s of hg serve")
 

@@ -583,6 +583,126 @@ def outputs_that_fail(room):
     want("the store after it", read(room.path("store/pushes")), store_of(it.bundles[:1])[0])
 
 
+EACH = 1_024
+
+
+def index_of(data, ends, places):
+    """The bytes of the index of a store, with the marks of these places."""
+    first = sha1(data[:HEAD])
+    text = b"HGPLACES"
+    for place in places:
+        before = first if place == 0 else record_digest(data, ends, place - 1)
+        text += struct.pack(">QQ", place, ends[place]) + before
+    return text + sha1(first + text)
+
+
+def record_digest(data, ends, place):
+    """The digest of a record of version 2 whose user is USER."""
+    at = ends[place] + 14 + len(USER)
+    return data[at:at + 20]
+
+
+@case
+def an_index(room):
+    """A log from a place behind 1,024 records begins at a mark, and writes the index anew where it does not fit."""
+    bundles = [bundle((b"note", (), b"%d" % number)) for number in range(2 * EACH + 60)]
+    data, ends = store_of(bundles)
+    room.store(data)
+    path, wanted = room.path("store/pushes.index"), index_of(data, ends, (0, EACH, 2 * EACH))
+    half = index_of(data, ends, (0, EACH))
+    room.looks("log --store store", b"".join(bundles))
+    room.looks(f"log --store store --from {EACH - 1}", b"".join(bundles[EACH - 1:]))
+    room.run(f"log --store store --from {EACH + 5}", b"".join(bundles[EACH + 5:]))
+    want("the index up to a place", found_in(room.path("store")), {".": None, "pushes": data, "pushes.index": half})
+    for said in (None, b"", half, half[:-1], half + b"\0", b"\0" * 36, bytes(1_000_000), wanted[:70] + b"?" + wanted[71:],
+                 index_of(store_of(bundles, True)[0], ends, (0, EACH, 2 * EACH))):
+        if said is None:
+            os.remove(path)
+        else:
+            with open(path, "wb") as file:
+                file.write(said)
+        room.run(f"log --store store --from {2 * EACH + 7}", b"".join(bundles[2 * EACH + 7:]))
+        want("the index anew", read(path), wanted)
+    for first in (EACH, EACH + 1, 2 * EACH - 1, 2 * EACH, 2 * EACH + 59, 2 * EACH + 60, 10 * EACH, (1 << 64) - 1):
+        room.looks(f"log --store store --from {first}", b"".join(bundles[first:]))
+    lines = b"".join(b"%d %s ann 0 %d\n" % (at, when(1000 * at), len(bundles[at])) for at in (2 * EACH + 58, 2 * EACH + 59))
+    room.looks(f"log --store store --list --from {2 * EACH + 58}", lines)
+    room.run(f"log --store store --from {2 * EACH + 58} --to log")
+    want("files of a log", found_in(room.path("log")),
+         {".": None, **{f"{at:010}": bundles[at] for at in (2 * EACH + 58, 2 * EACH + 59)}})
+
+
+def when(milliseconds):
+    """The date of a time, as a line has it."""
+    if milliseconds == 0:
+        return b"-"
+    date = datetime.datetime.fromtimestamp(milliseconds // 1000, datetime.timezone.utc)
+    return date.strftime("%Y-%m-%dT%H:%M:%SZ").encode()
+
+
+@case
+def an_index_of_a_store_that_was_cut(room):
+    """Pushes behind a cut do not go on from the marks of the index: they are not used."""
+    bundles = [bundle((b"note", (), b"%d" % number)) for number in range(2 * EACH + 60)]
+    data, ends = store_of(bundles)
+    others = bundles[:2 * EACH - 5] + [bundle((b"note", (), b"other %d" % number)) for number in range(60)]
+    room.store(data)
+    room.run(f"log --store store --from {2 * EACH + 50}", b"".join(bundles[2 * EACH + 50:]))
+    for kept in (bundles[:EACH - 5], bundles[:EACH], bundles[:2 * EACH - 5], others):
+        with open(room.path("store/pushes"), "wb") as file:
+            file.write(store_of(kept)[0])
+        for first in (EACH + 3, 2 * EACH + 3):
+            room.run(f"log --store store --from {first}", b"".join(kept[first:]))
+    other, ends = store_of(others)
+    want("the index anew", read(room.path("store/pushes.index")), index_of(other, ends, (0, EACH, 2 * EACH)))
+
+
+@case
+def damage_and_an_index(room):
+    """Damage from the mark on is told at its place. What is before the mark is not read."""
+    bundles = [bundle((b"note", (), b"%d" % number)) for number in range(EACH + 60)]
+    data, ends = store_of(bundles)
+    room.store(data)
+    room.run(f"log --store store --from {EACH + 50}", b"".join(bundles[EACH + 50:]))
+    for place in (EACH, EACH + 1, EACH + 59):
+        room.store(data[:ends[place + 1] - 1] + b"?" + data[ends[place + 1]:])
+        room.looks(f"log --store store --from {EACH + 50}", status=3, line=f"store/pushes: damage at place {place}")
+    room.store(data[:-3])
+    room.looks(f"log --store store --from {EACH + 50}", b"".join(bundles[EACH + 50:-1]),
+               line=f"store/pushes: torn: {EACH + 59} pushes are whole; `hg_pushd cut --store store --at {EACH + 59}` "
+                    "ends it there")
+    room.store(data[:ends[6] - 1] + b"?" + data[ends[6]:])
+    room.looks(f"log --store store --from {EACH + 50}", b"".join(bundles[EACH + 50:]))
+    room.looks("log --store store", status=3, line="store/pushes: damage at place 5")
+    os.remove(room.path("store/pushes.index"))
+    room.looks(f"log --store store --from {EACH + 50}", status=3, line="store/pushes: damage at place 5")
+
+
+@case
+def an_index_that_is_no_file(room):
+    """No link is followed to an index. A folder under its name stays, and a log is none the worse."""
+    bundles = [bundle((b"note", (), b"%d" % number)) for number in range(EACH + 60)]
+    data, ends = store_of(bundles)
+    room.store(data)
+    path, words = room.path("store/pushes.index"), f"log --store store --from {EACH + 50}"
+    for name in ("pushes.index", "pushes.index.new"):
+        with open(room.path("mine"), "wb") as file:
+            file.write(b"mine")
+        os.symlink(room.path("mine"), room.path(f"store/{name}"))
+        room.run(words, b"".join(bundles[EACH + 50:]))
+        want("what the link names", read(room.path("mine")), b"mine")
+        if os.path.islink(room.path(f"store/{name}")):
+            os.remove(room.path(f"store/{name}"))
+    if os.path.exists(path):
+        os.remove(path)
+    os.mkdir(path)
+    room.looks(words, b"".join(bundles[EACH + 50:]))
+    os.rmdir(path)
+    os.mkfifo(path)
+    room.run(words, b"".join(bundles[EACH + 50:]))
+    want("the index in its place", read(path), index_of(data, ends, (0, EACH)))
+
+
 def main():
     failed, names = 0, sys.argv[2:]
     cases = [it for it in CASES if not names or it.__name__ in names]

@@ -14,8 +14,8 @@
 #   where the program of bench/store/program is at build/store_speed;
 # - what one thread of C writes of 256 KiB each, with one sync for all, which is what the disk takes;
 # - how many writes and syncs a push makes, of the threads in one process and of those in C, where strace is there;
-# - seconds to open a store of a million small pushes, until `host` says where it listens and by `report`, beside SHA-1
-#   of its file, and of 10,000 beside a replay of them.
+# - seconds to open a store of a million small pushes, until `host` says where it listens, by `report`, and by `log`: of
+#   all, and of the last without an index and by it; beside SHA-1 of its file; and of 10,000 beside a replay of them.
 set -eu
 top=$(cd "$(dirname "$0")/../.." && pwd)
 program=$(cd "$(dirname "$1")" && pwd)/$(basename "$1")
@@ -121,15 +121,18 @@ opened() {
     start_host many/store
     echo "$1 pushes: host listens after $(echo "$(date +%s.%N) $start" | awk '{ printf "%.2f", $1 - $2 }') s," \
         "report takes $(seconds "$program" report --store many/store) s," \
+        "log $(seconds "$program" log --store many/store) s," \
+        "from place $2 without an index $(seconds "$program" log --store many/store --from "$2") s," \
+        "by it $(seconds "$program" log --store many/store --from "$2") s," \
         "sha1sum $(seconds sha1sum many/store/pushes) s"
     stop_host
 }
 
 "$here/many.py" many 1000000
-opened 1,000,000
+opened 1,000,000 999000
 rm -rf many
 "$here/many.py" many 10000 10000
-opened 10,000
+opened 10,000 9900
 ulimit -n 15000
 echo "10,000 pushes: replay takes $(seconds "$program" replay many/bundles/*) s"
 rm -rf many

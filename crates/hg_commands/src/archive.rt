@@ -32,7 +32,7 @@ pub fn report<R: Files<File = File> + Eprint, W: Writer>(
     }
 }
 
-/// Writes the bundles of a store from a place on in that form. The status 0 says that the writer took those of a file,
+/// Writes the bundles of a store from a place on in that form. The status 0 says that the writer took those of a store,
 /// one after the other.
 pub fn log<R: Files<File = File> + Eprint, W: Writer>(
     rt: &R,
@@ -67,7 +67,7 @@ pub fn log_to<R: Files<File = File> + Eprint>(
     }
 }
 
-/// Writes a line for each push of a store from a place on. The status 0 says that the writer took those of a file, one
+/// Writes a line for each push of a store from a place on. The status 0 says that the writer took those of a store, one
 /// after the other.
 pub fn list<R: Files<File = File> + Eprint, W: Writer>(
     rt: &R,

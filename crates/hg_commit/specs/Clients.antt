@@ -1,11 +1,11 @@
 -- What a client has seen of a ledger that keeps its server's pushes.
-use Rattle.std.specs.Prelude.{ℕ, ◌≡◌, ◌≤◌, List, Option, Some, None, Contains}
+use Rattle.std.specs.Prelude.{ℕ, ◌≡◌, ◌≤◌, Bool, true, List, Option, Some, None, Contains}
 use mathlib.Core.List.{IsPrefix}
 use Rattle.hg_types.specs.declared.item.Taken.{Taken}
 use Rattle.hg_store.specs.Entries.{Entry}
 use Rattle.hg_store.specs.declared.head.Head.{Head}
 use Rattle.hg_push.specs.Run.{RepositoryOf}
-use Rattle.hg_commit.specs.Orders.{AreSeen, Comes, HasGrown, no_receipt, ReceiptView}
+use Rattle.hg_commit.specs.Orders.{AreSeen, Comes, HasBeat, HasGrown, no_receipt, ReceiptView}
 use Rattle.hg_commit.specs.Promises.{Promise}
 use Rattle.hg_commit.specs.Records.{AreKept}
 
@@ -70,3 +70,11 @@ pub record IsCovered {A D : Type 0} (seen : D → List ℕ) (may_leave : D → L
   where
     pub covers : Covers seen may_leave moment head stored first client.history client.receipt.promises rests
     pub stands : AreSeen client.receipt
+
+-- So many done pushes that a client was answered by were on a device, and its receipt has a promise of them. With beats
+-- that rests on one which began behind its request: it had this receipt as that came.
+pub record IsKept {A D : Type 0} (seen : D → List ℕ) (may_leave : D → List ℕ → Type 0) (moment : D → ℕ)
+    (head : Head) (stored : List Entry) (first : RepositoryOf A) (beats : Bool) (asked : ReceiptView)
+    (client : KeptSeen A) (rests : ℕ) : Type 0 where
+  pub is_covered : IsCovered seen may_leave moment head stored first client rests
+  pub has_beat : beats ≡ true → HasBeat asked client.receipt rests

@@ -1,5 +1,5 @@
 -- What happens at a tally, in one order: promises are made, requests come, writes begin, and beats are asked for.
-use Rattle.std.specs.Prelude.{ℕ, ◌≡◌, ◌⊎◌, ◌≤◌, ◌+◌, ◌==◌, ⊤, if◌then◌else◌, List, [], ◌∷◌, ◌++◌, All, Contains}
+use Rattle.std.specs.Prelude.{ℕ, ◌≡◌, ◌⊎◌, ◌≤◌, ◌+◌, ◌==◌, ⊤, if◌then◌else◌, List, [], ◌∷◌, ◌++◌, All, Contains, IfSome, Option}
 use Rattle.std.specs.Coded.{Coded, coded_list, coded⊎, coded_ℕ, code_by}
 use mathlib.Core.List.{IsPrefix}
 use mathlib.Core.Logic.{inl, inr}
@@ -98,6 +98,11 @@ pub record Asks (before after : ReceiptView) (begun : ℕ) : Type 0 where
   pub same : after.promises ≡ before.promises
   pub came : after.came ≡ before.came
   pub counts : begun_in after.order ≡ begun
+
+-- A client asked for a beat, and it waits for the next write that begins then: the one of that number, if the numbers go
+-- on.
+abbrev pub HasAskedFor : ReceiptView → ReceiptView → Option ℕ → Type 0
+HasAskedFor before after awaited = IfSome awaited (λ write. (begun : ℕ) × (write ≡ begun + 1) × Asks before after begun)
 
 -- Behind all that a client had seen it asked for a beat, as the last of its asks; a write began after that; and what
 -- was promised after that write had begun is a promise of the client, of so many records or more.

@@ -261,6 +261,9 @@ impl<J: Storing<A>, D: Device, A: Allocator + Copy> Disk<J, D, A> {
         ensures any_moment { LeavesOnly D.moment D.left_since self.old.device self.new.device
             (IsFront J.head J.stored J.first self.old.history self.old.count) }
 
+        // Nothing is called for an empty batch.
+        ensures quiet { self.old.batch ≡ [] → self.new.device ≡ self.old.device }
+
         // A batch has a beat.
         ensures beat { self.old.batch ≢ [] → self.new.is_broken ≡ false →
             D.beats self.old.device < D.beats self.new.device }
@@ -317,6 +320,9 @@ impl<J: Storing<A>, D: Device, A: Allocator + Copy> Disk<J, D, A> {
         ensures beat { with_beats ≡ true → self.new.is_broken ≡ false →
             D.beats self.old.device < D.beats self.new.device }
         ensures ended { with_beats ≡ true → self.new.is_broken ≡ false → self.new.ended ≡ self.old.begun }
+
+        // Without beats nothing is called where no record is.
+        ensures quiet { with_beats ≡ false → self.old.batch ≡ [] → self.new.device ≡ self.old.device }
     {
         if with_beats && self.is_idle() {
             self.beat(tally);

@@ -6,7 +6,7 @@ ghost use Rattle.hg_types.specs.Limits.{IsAllowed};
 ghost use Rattle.hg_store.specs.Log.{IsSettled};
 ghost use Rattle.hg_commit.specs.Clients.{AreWritten, Covers, IsCovered, IsGranted};
 ghost use Rattle.hg_commit.specs.Lives.{IsKeptSince, Lives};
-ghost use Rattle.hg_commit.specs.Orders.{Asks, Comes, HasBeat, HasGrown};
+ghost use Rattle.hg_commit.specs.Orders.{Comes, HasAskedFor, HasBeat, HasGrown, ReceiptView};
 ghost use Rattle.hg_commit.specs.Receipts.{IsTallyOf};
 ghost use Rattle.hg_commit.specs.Records.{IsRecordOf, KeepsRecords, done_in};
 
@@ -92,9 +92,9 @@ impl<J: Storing<A>, D: Device, A: Allocator + Copy> Ledger<J, D, A> {
         }
     }
 
-    /// The ledger with beats, or without, as it is at first. With beats what has no record of its own is kept, and a
-    /// receipt is given, only once a write and a sync went well that began after the call: the device was this server's
-    /// then. All who wait share one, and a batch of records counts as one. Without beats nothing is called for these.
+    /// The ledger with beats, or without, as it is at first. With beats anything is kept, and a receipt is given, only
+    /// once a write and a sync went well that began after the call: the device was this server's then. All who wait share
+    /// one, and a batch of records counts as one, as that of a push's own record. Without beats none is made.
     pub fn beating(mut self, has_beats: bool) -> Self
         ensures { result.has_beats ≡ has_beats }
     {
@@ -131,26 +131,19 @@ impl<J: Storing<A>, D: Device, A: Allocator + Copy> Ledger<J, D, A> {
             × IsCovered D.seen D.may_leave D.moment J.head J.stored J.first kept.client rests) }
         ensures failed { IfErr result (λ back. IsGranted client back.0) }
 
-        // With beats, what has no record of its own rests on one that began after the call.
-        ensures beat { self.now.has_beats ≡ true → entry ≡ None →
+        // With beats it stands on a write that began after the call and so after all that the client had seen, as that
+        // its request came. And the write ended well.
+        ensures beat { self.now.has_beats ≡ true →
             IfOk result (λ kept. HasBeat client.receipt kept.client.receipt rests) }
     {
         let mut client = client;
-        let with_beat = self.needs_beat(&entry);
+        // Before the record is handed in: so its own batch is the write that is waited for, or a later one.
+        let awaited = self.awaited(&mut client);
+        let has_record = entry.is_some();
         let handed = self.hand_in(rt, server, &mut client.client, room, rests, entry);
-        match self.await_receipt(rt, server, &mut client, rests, with_beat) {
+        match self.await_receipt(rt, server, &mut client, rests, awaited, has_record) {
             Ok(()) => Ok(Kept::new(client, rests, handed)),
             Err(fault) => Err((client, fault)),
-        }
-    }
-
-    /// Whether an answer with that record, if there is one, is to rest on a beat.
-    fn needs_beat(&self, entry: &Option<Sealed<A>>) -> bool
-        ensures { self.now.has_beats ≡ true → entry.now ≡ None → result ≡ true }
-    {
-        match entry {
-            Some(_) => false,
-            None => self.has_beats,
         }
     }
 
@@ -212,34 +205,35 @@ impl<J: Storing<A>, D: Device, A: Allocator + Copy> Ledger<J, D, A> {
         ensures beat { self.now.has_beats ≡ true →
             IfOk result (λ _. HasBeat client.old.receipt client.new.receipt rests) }
     {
-        self.await_receipt(rt, server, client, rests, self.has_beats)
+        let awaited = self.awaited(client);
+        self.await_receipt(rt, server, client, rests, awaited, false)
     }
 
-    /// The write that is waited for before an answer: where that is to rest on a beat, the next one that begins, for
-    /// which the client asks, and else none, as 0. `None` where the numbers end.
-    fn awaited(&self, client: &mut KeptClient<J, A>, with_beat: bool) -> Option<u64>
+    /// The write that is waited for before an answer: with beats the next one that begins, for which the client asks, and
+    /// else none, as 0. `None` where the numbers end.
+    fn awaited(&self, client: &mut KeptClient<J, A>) -> Option<u64>
         ensures same { client.new.history ≡ client.old.history }
         ensures grows { HasGrown client.old.receipt client.new.receipt }
         ensures came { client.new.receipt.came ≡ client.old.receipt.came }
-        ensures asked { with_beat ≡ true → IfSome result (λ write. (begun : ℕ) × (write ≡ begun + 1)
-            × Asks client.old.receipt client.new.receipt begun) }
+        ensures asked { self.now.has_beats ≡ true → HasAskedFor client.old.receipt client.new.receipt result }
     {
-        if !with_beat {
+        if !self.has_beats {
             return Some(0);
         }
         let begun = client.ask(&self.tally);
         begun.checked_add(1)
     }
 
-    /// Waits until so many done pushes are on the device, and maybe for a beat that begins now. The client has a receipt
-    /// for them then.
+    /// Waits until so many done pushes are on the device, and for the write of that number. The client has a receipt for
+    /// them then. Where the numbers ended, there is none.
     fn await_receipt<R: Wait>(
         &self,
         rt: &R,
         server: &Server<J, A>,
         client: &mut KeptClient<J, A>,
         rests: usize,
-        with_beat: bool,
+        awaited: Option<u64>,
+        has_record: bool,
     ) -> Result<(), NotStored>
         requires { rests ≤ done_in J.first client.old.history }
         ensures same { client.new.history ≡ client.old.history }
@@ -247,13 +241,13 @@ impl<J: Storing<A>, D: Device, A: Allocator + Copy> Ledger<J, D, A> {
         ensures came { client.new.receipt.came ≡ client.old.receipt.came }
         ensures covered { IfOk result (λ _. IsCovered D.seen D.may_leave D.moment J.head J.stored J.first client.new
             rests) }
-        ensures beat { with_beat ≡ true →
-            IfOk result (λ _. HasBeat client.old.receipt client.new.receipt rests) }
+        ensures beat { (before : ReceiptView) → HasAskedFor before client.old.receipt awaited →
+            IfOk result (λ _. HasBeat before client.new.receipt rests) }
     {
-        let Some(awaited) = self.awaited(client, with_beat) else {
+        let Some(awaited) = awaited else {
             return Err(NotStored);
         };
-        match self.await_records(rt, server, &mut client.client, rests, awaited) {
+        match self.await_records(rt, server, &mut client.client, rests, awaited, has_record) {
             Ok(grant) => {
                 client.take_in(&self.tally, grant);
                 Ok(())
@@ -263,7 +257,7 @@ impl<J: Storing<A>, D: Device, A: Allocator + Copy> Ledger<J, D, A> {
     }
 
     /// A grant for so many done pushes, once they are on the device and the write of that number, or a later one, ended
-    /// well.
+    /// well. Who has a record that waits makes no beat, since its batch is such a write.
     fn await_records<R: Wait>(
         &self,
         rt: &R,
@@ -271,6 +265,7 @@ impl<J: Storing<A>, D: Device, A: Allocator + Copy> Ledger<J, D, A> {
         client: &mut Client<J, A>,
         rests: usize,
         awaited: u64,
+        has_record: bool,
     ) -> Result<Grant<J, A>, NotStored>
         requires { rests ≤ done_in J.first client.old }
         ensures same { client.new ≡ client.old }
@@ -280,7 +275,7 @@ impl<J: Storing<A>, D: Device, A: Allocator + Copy> Ledger<J, D, A> {
     {
         let mut waiting = self.waiting.lock(rt);
         'waiting: for _ in rt.forever() {
-            match waiting.step(rt, server, client, &self.tally, rests, awaited) {
+            match waiting.step(rt, server, client, &self.tally, rests, awaited, has_record) {
                 Ok(grant) => return Ok(grant),
                 Err(NextStep::Stop) => return Err(NotStored),
                 Err(NextStep::Wait(door)) => waiting = self.doors.at(door).wait(rt, waiting),

@@ -147,7 +147,7 @@ impl<J: Storing<A>, D: Device, A: Allocator + Copy> Waiting<J, D, A> {
     }
 
     /// The grant of a thread whose reply rests on so many done pushes, once the write of that number ended well, or what
-    /// comes next for it.
+    /// comes next for it. Where nothing is to be written, a thread without a record writes for the beat.
     pub fn step<R: Wait>(
         &mut self,
         rt: &R,
@@ -156,6 +156,7 @@ impl<J: Storing<A>, D: Device, A: Allocator + Copy> Waiting<J, D, A> {
         tally: &OpenTally<J, A>,
         rests: usize,
         awaited: u64,
+        has_record: bool,
     ) -> Result<Grant<J, A>, NextStep>
         requires { rests ≤ done_in J.first client.old }
         ensures same { client.new ≡ client.old }
@@ -171,7 +172,8 @@ impl<J: Storing<A>, D: Device, A: Allocator + Copy> Waiting<J, D, A> {
         if rests <= self.count && awaited <= self.ended {
             return Ok(self.grant(rt, server, client, tally, rests));
         }
-        if self.is_writing || !(self.has_next() || self.ended < awaited) {
+        let wants_beat = self.ended < awaited && !has_record;
+        if self.is_writing || !(self.has_next() || wants_beat) {
             return Err(NextStep::Wait(self.door_for(rests, awaited)));
         }
         Err(NextStep::Write)

@@ -1,6 +1,6 @@
 -- One bundle, from its bytes to its receipt and its reply.
 use Rattle.std.proofs.Common.{ℕ, ◌≡◌, ◌≤◌, ◌+◌, ◌-◌, List, refl, sym, ◌∙◌, subst, arith, rules}
-use Rattle.std.specs.Prelude.{IfErr, IfOk, IfSome, Some, option_to_list, Result, Ok, Err}
+use Rattle.std.specs.Prelude.{Bool, true, IfErr, IfOk, IfSome, Some, option_to_list, Result, Ok, Err}
 use Rattle.hg_types.specs.declared.limits.Limits.{Limits}
 use Rattle.hg_types.specs.declared.part.Part.{Part}
 use Rattle.hg_types.specs.declared.item.Taken.{Taken}
@@ -20,6 +20,7 @@ use Rattle.hg_store.specs.Entries.{Entry, Stamp}
 use Rattle.hg_store.specs.declared.head.Head.{Head}
 use Rattle.hg_connection.specs.Devices.{Input}
 use Rattle.hg_commit.specs.Clients.{IsCovered, IsGranted, KeptSeen, KeptView}
+use Rattle.hg_commit.specs.Orders.{HasBeat, ReceiptView}
 use Rattle.hg_commit.specs.Records.{IsRecordOf}
 use Rattle.hg_connection.specs.declared.bundle_end.BundleEnd.{BundleEnd}
 use Rattle.hg_connection.specs.Receiving.{mark_of, push_items, state_at}
@@ -108,6 +109,7 @@ client_of (Err back) = back.0
 
 module _ {A D E : Type 0} (seen : D → List ℕ) (may_leave : D → List ℕ → Type 0) (moment : D → ℕ) (head : Head)
     (stored : List Entry) (first : RepositoryOf A) (before : KeptSeen A) (rests : ℕ) (handed_in : List Entry)
+    (beats : Bool)
   where
     pub granted : (kept : Result (KeptView A) (KeptSeen A × E))
         → IfOk kept (λ k. (k.rests ≡ rests) × (k.handed ≡ handed_in) × IsGranted before k.client
@@ -119,9 +121,13 @@ module _ {A D E : Type 0} (seen : D → List ℕ) (may_leave : D → List ℕ �
     pub kept_or_not : (kept : Result (KeptView A) (KeptSeen A × E))
         → IfOk kept (λ k. (k.rests ≡ rests) × (k.handed ≡ handed_in) × IsGranted before k.client
         × IsCovered seen may_leave moment head stored first k.client rests)
-        → IsKeptOrNot seen may_leave moment head stored first (client_of kept) rests handed_in kept
-    kept_or_not (Ok kept) is = (λ i. record { client = kept.client; rests = is.0 i; handed = is.1 i }, is.3)
-    kept_or_not (Err back) is = refl
+        → (beats ≡ true → IfOk kept (λ k. HasBeat before.receipt k.client.receipt rests))
+        → IsKeptOrNot seen may_leave moment head stored first beats before.receipt (client_of kept) rests handed_in kept
+    kept_or_not (Ok kept) is beat = (
+      λ i. record { client = kept.client; rests = is.0 i; handed = is.1 i },
+      record { is_covered = is.3; has_beat = beat },
+    )
+    kept_or_not (Err back) is beat = refl
 
 -- what holds of a push that was opened so holds of it by another view of it
 pub kept_on : {A : Type 0} (limits : Limits) (capacity : ℕ) (first : RepositoryOf A) (waited waiting : List ℕ)
@@ -135,14 +141,16 @@ kept_on {A} limits capacity first waited waiting input left opened other stamp x
 pub may_be_told : {A D E : Type 0} (seen : D → List ℕ) (may_leave : D → List ℕ → Type 0) (moment : D → ℕ) (head : Head)
     (stored : List Entry) (limits : Limits) (capacity : ℕ) (first : RepositoryOf A) (before : KeptSeen A)
     (waited : List ℕ) (x : KeptExchange A) (how : Outcome (Done A) (Refusal A))
-    (kept : Result (KeptView A) (KeptSeen A × E))
+    (kept : Result (KeptView A) (KeptSeen A × E)) (beats : Bool) (asked : ReceiptView)
     → IsKeptExchange limits capacity first before waited x → x.how ≡ how
-    → IsKeptOrNot seen may_leave moment head stored first x.after x.rests x.handed kept
+    → IsKeptOrNot seen may_leave moment head stored first beats asked x.after x.rests x.handed kept
     → IfOk kept (λ k. MayBeTold first how k)
-may_be_told {A} seen may_leave moment head stored limits capacity first before waited x how (Ok kept) is same all = record {
-  push = x.push;
-  rests_on = subst (λ (y : KeptView A × Outcome (Done A) (Refusal A)). RestsOn run_push first
-      (newest_first y.0.client.history) x.push y.1 y.0.rests) (λ i. (sym all.0 i, same i)) is.rests_on;
-  told = subst (λ (h : Outcome (Done A) (Refusal A)). CanBeTold h) same is.answers.told;
-}
-may_be_told seen may_leave moment head stored limits capacity first before waited x how (Err back) is same all = tt
+may_be_told {A} seen may_leave moment head stored limits capacity first before waited x how (Ok kept) beats asked is same
+    all = record {
+      push = x.push;
+      rests_on = subst (λ (y : KeptView A × Outcome (Done A) (Refusal A)). RestsOn run_push first
+          (newest_first y.0.client.history) x.push y.1 y.0.rests) (λ i. (sym all.0 i, same i)) is.rests_on;
+      told = subst (λ (h : Outcome (Done A) (Refusal A)). CanBeTold h) same is.answers.told;
+    }
+may_be_told seen may_leave moment head stored limits capacity first before waited x how (Err back) beats asked is same
+    all = tt

@@ -1,5 +1,5 @@
 -- One bundle whose push is kept before it is answered.
-use Rattle.std.specs.Prelude.{ℕ, ◌≡◌, ◌≤◌, ◌-◌, ⊤, List, [], ◌∷◌, ◌++◌, length, Option, Some, None, option_to_list, Result, Ok, Err}
+use Rattle.std.specs.Prelude.{ℕ, ◌≡◌, ◌≤◌, ◌-◌, ⊤, Bool, List, [], ◌∷◌, ◌++◌, length, Option, Some, None, option_to_list, Result, Ok, Err}
 use Rattle.std.specs.Io.KnownBytes.{Appends, Consumes}
 use Rattle.hg_types.specs.declared.item.Taken.{Taken}
 use Rattle.hg_types.specs.declared.limits.Limits.{Limits}
@@ -17,8 +17,8 @@ use Rattle.hg_serve.specs.Answers.{Answers}
 use Rattle.hg_serve.specs.Histories.{newest_first}
 use Rattle.hg_store.specs.Entries.{Entry, Stamp}
 use Rattle.hg_store.specs.declared.head.Head.{Head}
-use Rattle.hg_commit.specs.Clients.{IsCovered, KeptSeen, KeptView}
-use Rattle.hg_commit.specs.Orders.{HasGrown}
+use Rattle.hg_commit.specs.Clients.{IsCovered, IsKept, KeptSeen, KeptView}
+use Rattle.hg_commit.specs.Orders.{HasGrown, ReceiptView}
 use Rattle.hg_commit.specs.Records.{IsRecordOf}
 use Rattle.hg_connection.specs.Devices.{Input, Output, ReadAnswer, WriteAnswer, TellsMore}
 use Rattle.hg_connection.specs.Sent.{IsSent}
@@ -97,25 +97,27 @@ pub record KeepsBundle {A : Type 0} (limits : Limits) (capacity : ℕ) (first : 
   pub own : x.push ≡ opened.push
   pub flows : ComesFrom waited waiting input left x
 
--- So many done pushes were on the device, and the client's receipt has a promise of them: what says so comes with the
--- client, and with the record that was handed in. Where the store failed, the client comes back.
+-- So many done pushes were on the device, and the client's receipt has a promise of them; with beats this rests on one
+-- that began behind the request. What says so comes with the client, and with the record that was handed in. Where the
+-- store failed, the client comes back.
 abbrev pub IsKeptOrNot : {A D E : Type 0} → (D → List ℕ) → (D → List ℕ → Type 0) → (D → ℕ) → Head →
-    List Entry → RepositoryOf A → KeptSeen A → ℕ → List Entry → Result (KeptView A) (KeptSeen A × E) → Type 0
-IsKeptOrNot seen may_leave moment head stored first after rests handed (Ok kept) =
+    List Entry → RepositoryOf A → Bool → ReceiptView → KeptSeen A → ℕ → List Entry →
+    Result (KeptView A) (KeptSeen A × E) → Type 0
+IsKeptOrNot seen may_leave moment head stored first beats asked after rests handed (Ok kept) =
     (kept ≡ record { client = after; rests = rests; handed = handed })
-    × IsCovered seen may_leave moment head stored first after rests
-IsKeptOrNot seen may_leave moment head stored first after rests handed (Err back) = back.0 ≡ after
+    × IsKept seen may_leave moment head stored first beats asked after rests
+IsKeptOrNot seen may_leave moment head stored first beats asked after rests handed (Err back) = back.0 ≡ after
 
--- what the call reports of the bundle
+-- What the call reports of the bundle, whose request came as its client had this receipt.
 pub record IsRound {J D A : Type 0} (seen : D → List ℕ) (may_leave : D → List ℕ → Type 0) (moment : D → ℕ)
-    (head : Head) (stored : List Entry) (first : RepositoryOf A) (x : KeptExchange A) (round : KeptRound J D A) :
-    Type 0
+    (head : Head) (stored : List Entry) (first : RepositoryOf A) (beats : Bool) (asked : ReceiptView)
+    (x : KeptExchange A) (round : KeptRound J D A) : Type 0
   where
     pub ending_is : x.ending ≡ round.ending
     pub how_is : x.how ≡ round.answer.outcome
     pub takes_are : x.takes ≡ round.answer.takes
     pub rests_are : x.rests ≡ round.rests
-    pub kept_is : IsKeptOrNot seen may_leave moment head stored first x.after x.rests x.handed round.kept
+    pub kept_is : IsKeptOrNot seen may_leave moment head stored first beats asked x.after x.rests x.handed round.kept
 
 -- ---- its reply
 

@@ -124,7 +124,8 @@ pub fn open_kept<J: Storing<A>, D: Device, A: Allocator + Copy, R: Wait>(
 /// Keeps one bundle on a push that was opened with room for its record: receives it and has its bytes kept, puts its
 /// mark, waits for its answer, hands in the record of a done push with that stamp, and waits until all that the answer
 /// rests on is on the device, also where the push was aborted. The client has the receipt that it had, or one that has its promises
-/// and all that the answer rests on. **No writer is here**: what is told of the answer, [`reply_kept`] tells.
+/// and all that the answer rests on. With beats that rests on one which began after the push was opened, and so after
+/// its request came. **No writer is here**: what is told of the answer, [`reply_kept`] tells.
 pub fn keep_bundle<
     J: Storing<A>,
     D: Device,
@@ -148,7 +149,8 @@ pub fn keep_bundle<
     ensures kept { (x : KeptExchange A)
         × KeepsBundle keeping.now.server.now J.capacity J.first inbox.old inbox.new (I.told reader.old)
         (I.told reader.new) opened stamp x
-        × IsRound D.seen D.may_leave D.moment J.head J.stored J.first x result }
+        × IsRound D.seen D.may_leave D.moment J.head J.stored J.first keeping.now.ledger.now.has_beats
+        opened.client.receipt x result }
     ensures told { IfOk result.kept (λ kept. MayBeTold J.first result.answer.outcome kept) }
     ensures whole { result.ending ≡ Whole
         → (state_of bundle.new ≡ at_end_mark) × (ready_of bundle.new ≡ []) }

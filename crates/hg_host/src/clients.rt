@@ -1,7 +1,7 @@
 //! The clients of connections that are over.
 
 ghost use Rattle.std.specs.Prelude.{◌≡◌, ◌++◌, ◌∷◌, [], All, IfOk};
-ghost use Rattle.hg_commit.specs.Clients.{IsCovered};
+ghost use Rattle.hg_commit.specs.Clients.{IsKept};
 ghost use Rattle.hg_host.specs.Serving.{WasHosted};
 
 use crate::service::put;
@@ -23,7 +23,7 @@ pub struct HostedClients<J: Storing<Global>, D: Device, S: Shown<Global>> {
 impl<J: Storing<Global>, D: Device, S: Shown<Global>> Model for HostedClients<J, D, S> {
     ghost use Rattle.std.specs.Prelude.{List, All};
     ghost use Rattle.std.specs.declared.alloc.Global.{Global as Heap};
-    ghost use Rattle.hg_commit.specs.Clients.{IsCovered, KeptSeen};
+    ghost use Rattle.hg_commit.specs.Clients.{IsKept, KeptSeen};
     ghost use Rattle.hg_host.specs.Serving.{WasHosted};
 
     ghost Value = { List (KeptSeen Heap) };
@@ -31,7 +31,7 @@ impl<J: Storing<Global>, D: Device, S: Shown<Global>> Model for HostedClients<J,
     ghost view = { λ s. s.clients.items };
 
     ghost invariant = { λ s. All (WasHosted J.capacity J.first J.head J.stored
-        (IsCovered D.seen D.may_leave D.moment J.head J.stored J.first) S.is_page S.are_metrics) s.clients.items };
+        (IsKept D.seen D.may_leave D.moment J.head J.stored J.first) S.is_page S.are_metrics J.beats) s.clients.items };
 }
 
 impl<J: Storing<Global>, D: Device, S: Shown<Global>> HostedClients<J, D, S> {
@@ -58,7 +58,7 @@ impl<J: Storing<Global>, D: Device, S: Shown<Global>> HostedClients<J, D, S> {
     /// Adds one that came back from a connection. Where memory is refused, it is tried again.
     pub(crate) fn add<R: Wait>(&mut self, rt: &R, client: KeptClient<J>)
         requires { WasHosted J.capacity J.first J.head J.stored
-            (IsCovered D.seen D.may_leave D.moment J.head J.stored J.first) S.is_page S.are_metrics client }
+            (IsKept D.seen D.may_leave D.moment J.head J.stored J.first) S.is_page S.are_metrics J.beats client }
         ensures { self.new ≡ self.old ++ client ∷ [] }
     {
         put(rt, &mut self.clients, client);
@@ -73,7 +73,7 @@ impl<J: Storing<Global>, D: Device, S: Shown<Global>> HostedClients<J, D, S> {
     pub(crate) fn into_clients(self) -> Vec<KeptClient<J>>
         ensures items { result.items ≡ self }
         ensures hosted { All (WasHosted J.capacity J.first J.head J.stored
-            (IsCovered D.seen D.may_leave D.moment J.head J.stored J.first) S.is_page S.are_metrics) result.items }
+            (IsKept D.seen D.may_leave D.moment J.head J.stored J.first) S.is_page S.are_metrics J.beats) result.items }
     {
         let HostedClients { clients, of: _ } = self;
         clients

@@ -183,8 +183,9 @@ where
     requires tally { IsTallyOf J.tally J.name J.parts tally × (tally.promises ≡ []) }
     requires recovered { IsRecovered J.head.publishing J.head J.stored J.first }
     requires count { recovered.stored ≡ length J.stored }
+    requires rests_on_beats { J.beats ≡ terms.shared }
     ensures { IfSome result.left (EndsHost D.seen D.may_leave D.moment D.left_since J.capacity J.first J.head J.stored
-        J.opened ⟦<Board<'a, R> as Shown<Global>>⟧.is_page ⟦<Board<'a, R> as Shown<Global>>⟧.are_metrics) }
+        J.opened ⟦<Board<'a, R> as Shown<Global>>⟧.is_page ⟦<Board<'a, R> as Shown<Global>>⟧.are_metrics J.beats) }
 {
     let Ok(service) = HostService::<J, D, R>::new(rt, alloc, terms, queue, taker, recovered, tally)
     else {
@@ -210,7 +211,8 @@ where
 /// Serves the repository of a store to connections, and adds the pushes that are done to the store. It ends where
 /// the store failed, where there is no memory to begin with, or where the numbers of pushes come to their end.
 /// Then the store is closed, and all that was answered is in it: by the receipt of each client that came back from a
-/// connection and that no other one has.
+/// connection and that no other one has. Where the store is shared, each answer that depends on the repository rests on a
+/// beat that began after its request had come.
 pub fn serve_store<'a, D, R>(
     rt: &'a R,
     alloc: Global,
@@ -226,7 +228,7 @@ where
     ensures { (capacity : ℕ) × IfSome result.left (EndsHost D.seen D.may_leave D.moment D.left_since capacity
         recovered.repo (head_of recovered.publishing recovered.identity) (records_of recovered.records.items)
         (D.moment recovered.log.device) ⟦<Board<'a, R> as Shown<Global>>⟧.is_page
-        ⟦<Board<'a, R> as Shown<Global>>⟧.are_metrics) }
+        ⟦<Board<'a, R> as Shown<Global>>⟧.are_metrics terms.entry.shared) }
 {
     let capacity = terms.capacity.clamp(1, 65_536);
     let Ok((queue, taker)) = PartQueue::new(alloc, capacity) else {

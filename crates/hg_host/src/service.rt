@@ -8,7 +8,7 @@ ghost use Rattle.hg_types.specs.Limits.{IsAllowed};
 ghost use Rattle.hg_store.specs.Log.{IsSettled};
 ghost use Rattle.hg_serve.specs.Desks.{OpensWith};
 ghost use Rattle.hg_commit.specs.Receipts.{IsTallyOf};
-ghost use Rattle.hg_commit.specs.Clients.{IsCovered};
+ghost use Rattle.hg_commit.specs.Clients.{IsKept};
 ghost use Rattle.hg_commit.specs.Orders.{no_receipt};
 ghost use Rattle.hg_durable.specs.Closing.{ClosesKept};
 ghost use Rattle.hg_queue.specs.Words.{history};
@@ -76,7 +76,8 @@ impl<'a, J: Storing<Global>, D: Device, R: Wait + Clock> Model for HostService<'
     ghost view = { λ s. record { stored = s.stored; publishing = J.head.publishing } };
 
     ghost invariant = { λ s. (s.stored ≡ length J.stored)
-        × IsRecovered J.head.publishing J.head J.stored J.first };
+        × IsRecovered J.head.publishing J.head J.stored J.first
+        × (s.ledger.has_beats ≡ J.beats) };
 }
 
 impl<'a, J, D, R> HostService<'a, J, D, R>
@@ -86,7 +87,7 @@ where
     R: Wait + Clock + Eprint + RandomSource,
 {
     /// A service of that queue and that tally, over what was recovered of a store. Where memory is refused there is
-    /// none.
+    /// none. Answers rest on beats where the store is shared.
     pub(crate) fn new(
         rt: &'a R,
         alloc: Global,
@@ -102,6 +103,7 @@ where
         requires tally { IsTallyOf J.tally J.name J.parts tally × (tally.promises ≡ []) }
         requires recovered { IsRecovered J.head.publishing J.head J.stored J.first }
         requires count { recovered.stored ≡ length J.stored }
+        requires rests_on_beats { J.beats ≡ terms.shared }
     {
         let Ok((board, free)) = rooms(rt, alloc, &terms, recovered.log.end, recovered.stored) else {
             drop(recovered);
@@ -186,8 +188,8 @@ where
         writer: &mut W,
     ) -> (KeptClient<J>, P, ConnectionEnd)
         ensures { HostsHttp J.capacity J.first J.head J.stored
-            (IsCovered D.seen D.may_leave D.moment J.head J.stored J.first)
-            ⟦<Board<'a, R> as Shown<Global>>⟧.is_page ⟦<Board<'a, R> as Shown<Global>>⟧.are_metrics
+            (IsKept D.seen D.may_leave D.moment J.head J.stored J.first)
+            ⟦<Board<'a, R> as Shown<Global>>⟧.is_page ⟦<Board<'a, R> as Shown<Global>>⟧.are_metrics J.beats
             self.now (P.asked policy) (P.asked result.1) client (I.remaining reader.old)
             (I.remaining reader.new) (W.contents writer.old) (W.contents writer.new) result.2 result.0 }
     {
@@ -252,8 +254,8 @@ where
     /// had none would be asked again.
     fn leave(&self, rt: &R, client: KeptClient<J>)
         requires { WasHosted J.capacity J.first J.head J.stored
-            (IsCovered D.seen D.may_leave D.moment J.head J.stored J.first)
-            ⟦<Board<'a, R> as Shown<Global>>⟧.is_page ⟦<Board<'a, R> as Shown<Global>>⟧.are_metrics client }
+            (IsKept D.seen D.may_leave D.moment J.head J.stored J.first)
+            ⟦<Board<'a, R> as Shown<Global>>⟧.is_page ⟦<Board<'a, R> as Shown<Global>>⟧.are_metrics J.beats client }
     {
         self.free.lock(rt).add(rt, client);
     }

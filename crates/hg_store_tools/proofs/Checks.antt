@@ -1,5 +1,5 @@
 -- A store that is gone through once.
-use Rattle.std.proofs.Common.{ℕ, List, [], ◌++◌, length, Option}
+use Rattle.std.proofs.Common.{ℕ, ◌+◌, List, [], ◌++◌, length, Option}
 use Rattle.hg_store.specs.Entries.{Entry}
 use Rattle.hg_store.specs.Pieces.{HasToGive}
 use Rattle.hg_store.specs.declared.head.Head.{Head}
@@ -37,5 +37,5 @@ module _ {T : Type 0} (head : Head) (digest : List ℕ) (a b c : Option (List �
           is_unread fault at.file head records (tail ++ at.rest) front
               (is_unread_at head digest a b mid begins records tail each gone fault why),
         )
-    | failed records entry mid each gone visited why ↦ absurd (never (length records) entry mid last why)
+    | failed records entry mid each gone visited why ↦ absurd (never (0 + length records) entry mid last why)
   ]

@@ -30,6 +30,10 @@ use Rattle.hg_store_tools.specs.declared.fault.Fault.TheVariants.{Torn as TornAt
 use Rattle.hg_store_tools.specs.declared.fault.StoreEnd.{StoreEnd}
 use Rattle.hg_store_tools.specs.declared.fault.StoreEnd.TheVariants.{Whole, Torn}
 
+-- the records after a head are counted from 0
+pub from_front : (n : ℕ) → 0 + n ≡ n
+from_front n = omega arith
+
 -- A reader gave these bytes of a file, and has the rest still to give, none where it is at its end.
 pub record IsFileOf (a b : Option (List ℕ)) (bytes : List ℕ) : Type 0 where
   pub file : List ℕ
@@ -151,7 +155,7 @@ headless Unsent a b none = absurd none
 
 -- ---- after a head
 
-damaged_more : (version : Version) (digest bytes rest : List ℕ) → IsDamaged version digest bytes
+pub damaged_more : (version : Version) (digest bytes rest : List ℕ) → IsDamaged version digest bytes
     → IsDamaged version digest (bytes ++ rest)
 damaged_more version digest bytes rest damaged = elim damaged [
   | no_gate gate behind is some other ↦ no_gate gate (behind ++ rest) (ap (λ (l : List ℕ). l ++ rest) is) some other
@@ -166,7 +170,7 @@ damaged_more version digest bytes rest damaged = elim damaged [
       sized size differs
 ]
 
-end_more : (bytes rest : List ℕ) → (bytes ≡ [] → rest ≡ []) → IsEnd bytes → IsEnd (bytes ++ rest)
+pub end_more : (bytes rest : List ℕ) → (bytes ≡ [] → rest ≡ []) → IsEnd bytes → IsEnd (bytes ++ rest)
 end_more bytes rest none end = elim end [
   | over empty ↦ over (ap (λ (l : List ℕ). l ++ rest) empty ∙ none empty)
   | shut behind is ↦ shut (behind ++ rest) (ap (λ (l : List ℕ). l ++ rest) is)
@@ -229,9 +233,10 @@ module _ (head : Head) (digest : List ℕ) (a b c : Option (List ℕ)) (begins :
   either_end (Torn count) bytes ends = inr ends.1
 
   pub is_read : (ending : StoreEnd) → ((tail ≡ []) ⊎ (ending ≢ Whole) → IsAtEnd c)
-      → EndsSo ending (version_of head) (length records) tail → IsRead whole_file.file head records ending
+      → EndsSo ending (version_of head) (0 + length records) tail → IsRead whole_file.file head records ending
   is_read ending at_end ends =
-      let more = ends_more ending at_end ends in
+      let more = ends_more ending at_end
+      (subst (λ (n : ℕ). EndsSo ending (version_of head) n tail) (from_front (length records)) ends) in
       record {
         tail = tail ++ whole_file.rest;
         store = store_of (either_end ending (tail ++ whole_file.rest) more);
@@ -243,10 +248,10 @@ module _ (head : Head) (digest : List ℕ) (a b c : Option (List ℕ)) (begins :
   digest_so = ap (λ (d : List ℕ). last_digest (version_of head) d records) begins.digest_is
 
   pub is_unread_at : (fault : Fault)
-      → IsUnreadAt fault (version_of head) (last_digest (version_of head) digest records) (length records) tail
+      → IsUnreadAt fault (version_of head) (last_digest (version_of head) digest records) (0 + length records) tail
       → IsUnreadAt fault (version_of head) (digest_behind head records) (length records) (tail ++ whole_file.rest)
   is_unread_at (Damaged at) why = (
-    why.0,
+    why.0 ∙ from_front (length records),
     damaged_more (version_of head) (digest_behind head records) tail whole_file.rest
         (subst (λ (d : List ℕ). IsDamaged (version_of head) d tail) digest_so why.1),
   )

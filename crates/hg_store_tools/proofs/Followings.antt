@@ -187,22 +187,27 @@ module _ (A : Type 0) (log : LogForm) (place : ℕ) (entry : Entry) where
 
 -- ---- records that are found
 
--- These were found more than at first, and no other is durable.
-pub record Finding (found durable now_found now_durable more : List Entry) : Type 0 where
+-- These were found more than at first, and no other is durable. The first place is the same.
+pub record Finding (first : ℕ) (found durable : List Entry) (now_first : ℕ) (now_found now_durable more : List Entry) :
+    Type 0 where
+  pub first_is : now_first ≡ first
   pub found_is : now_found ≡ found ++ more
   pub durable_is : now_durable ≡ durable
 
-pub finding_none : (found durable : List Entry) → Finding found durable found durable []
-finding_none found durable = record { found_is = sym (append-nil found); durable_is = refl }
+pub finding_none : (first : ℕ) (found durable : List Entry) → Finding first found durable first found durable []
+finding_none first found durable = record { first_is = refl; found_is = sym (append-nil found); durable_is = refl }
 
-pub finding_more : (found durable now_found now_durable more : List Entry) (next : Entry)
-    (then_found then_durable : List Entry)
-    → Finding found durable now_found now_durable more → then_found ≡ now_found ++ next ∷ [] → then_durable ≡ now_durable
-    → Finding found durable then_found then_durable (more ++ next ∷ [])
-finding_more found durable now_found now_durable more next then_found then_durable finding found_is durable_is = record {
-  found_is = found_is ∙ ap (λ (rs : List Entry). rs ++ next ∷ []) finding.found_is ∙ append_assoc found more (next ∷ []);
-  durable_is = durable_is ∙ finding.durable_is;
-}
+pub finding_more : (first : ℕ) (found durable : List Entry) (now_first : ℕ) (now_found now_durable more : List Entry)
+    (next : Entry) (then_first : ℕ) (then_found then_durable : List Entry)
+    → Finding first found durable now_first now_found now_durable more → then_found ≡ now_found ++ next ∷ []
+    → then_durable ≡ now_durable → then_first ≡ now_first
+    → Finding first found durable then_first then_found then_durable (more ++ next ∷ [])
+finding_more first found durable now_first now_found now_durable more next then_first then_found then_durable finding
+    found_is durable_is first_is = record {
+      first_is = first_is ∙ finding.first_is;
+      found_is = found_is ∙ ap (λ (rs : List Entry). rs ++ next ∷ []) finding.found_is ∙ append_assoc found more (next ∷ []);
+      durable_is = durable_is ∙ finding.durable_is;
+    }
 
 -- ---- frames
 
@@ -242,8 +247,7 @@ module _ (A : Type 0) (log : LogForm) where
     pub are : AreFramesOf A log place (take index records) frames
     pub sent : Appends before now frames
 
-  pub sending_none : (place : ℕ) (records : List Entry) (before : Option (List ℕ)) → HasSent place records 0 place
-      before before
+  pub sending_none : (place : ℕ) (records : List Entry) (before : Option (List ℕ)) → HasSent place records 0 place before before
   sending_none place records before =
       record { next_is = omega arith; frames = []; are = refl; sent = Appends-nil before }
 
@@ -317,28 +321,31 @@ module _ (A : Type 0) (log : LogForm) where
 
   -- ---- a store that is followed
 
-  -- All records that were found are durable, and their frames were written.
-  pub record Following (place : ℕ) (found durable : List Entry) (before now : Option (List ℕ)) : Type 0 where
-    pub count : place ≡ length found
-    pub durable_is : durable ≡ found
-    pub frames : List ℕ
-    pub are : AreFramesOf A log 0 found frames
-    pub sent : Appends before now frames
+  -- All records that were found are durable, and their frames were written. The first of them is at this place.
+  pub record Following (first now_first place : ℕ) (found durable : List Entry) (before now : Option (List ℕ)) : Type 0
+    where
+      pub first_is : now_first ≡ first
+      pub count : place ≡ now_first + length found
+      pub durable_is : durable ≡ found
+      pub frames : List ℕ
+      pub are : AreFramesOf A log first found frames
+      pub sent : Appends before now frames
 
-  pub following_none : (found durable : List Entry) (before : Option (List ℕ)) → found ≡ [] → durable ≡ []
-      → Following 0 found durable before before
-  following_none found durable before none none_durable = record {
-    count = sym (ap length none);
+  pub following_none : (first now_first : ℕ) (found durable : List Entry) (before : Option (List ℕ))
+      → now_first ≡ first → found ≡ [] → durable ≡ [] → Following first now_first first found durable before before
+  following_none first now_first found durable before same none none_durable = record {
+    first_is = same;
+    count = omega (arith, same, ap length none);
     durable_is = none_durable ∙ sym none;
     frames = [];
-    are = subst (λ (rs : List Entry). AreFramesOf A log 0 rs []) (sym none) refl;
+    are = subst (λ (rs : List Entry). AreFramesOf A log first rs []) (sym none) refl;
     sent = Appends-nil before;
   }
 
-  module _ (place : ℕ) (found durable : List Entry) (before now : Option (List ℕ))
-      (following : Following place found durable before now) where
-    from_first : length found ≡ 0 + length found
-    from_first = omega arith
+  module _ (first now_first place : ℕ) (found durable : List Entry) (before now : Option (List ℕ))
+      (following : Following first now_first place found durable before now) where
+    from_first : now_first + length found ≡ first + length found
+    from_first = ap (λ (n : ℕ). n + length found) following.first_is
 
     durable_then : (more now_found now_durable : List Entry) → now_found ≡ found ++ more
         → ((more ≡ []) × (now_durable ≡ durable)) ⊎ (now_durable ≡ now_found) → now_durable ≡ now_found
@@ -348,23 +355,24 @@ module _ (A : Type 0) (log : LogForm) where
       | inr all ↦ all
     ]
 
-    pub following_more : (next : ℕ) (now_found now_durable : List Entry) (after : Option (List ℕ))
-        → Follows A log next found durable now_found now_durable now after
-        → Following next now_found now_durable before after
-    following_more next now_found now_durable after follows = record {
-      count = follows.count;
+    pub following_more : (next then_first : ℕ) (now_found now_durable : List Entry) (after : Option (List ℕ))
+        → then_first ≡ now_first → Follows A log now_first next found durable now_found now_durable now after
+        → Following first then_first next now_found now_durable before after
+    following_more next then_first now_found now_durable after same follows = record {
+      first_is = same ∙ following.first_is;
+      count = follows.count ∙ ap (λ (n : ℕ). n + length now_found) (sym same);
       durable_is = durable_then follows.more now_found now_durable follows.found_is follows.synced;
       frames = following.frames ++ follows.frames;
-      are = subst (λ (rs : List Entry). AreFramesOf A log 0 rs (following.frames ++ follows.frames))
+      are = subst (λ (rs : List Entry). AreFramesOf A log first rs (following.frames ++ follows.frames))
           (sym follows.found_is)
-          (frames_append 0 found follows.more following.frames follows.frames following.are
+          (frames_append first found follows.more following.frames follows.frames following.are
           (subst (λ (n : ℕ). AreFramesOf A log n follows.more follows.frames) from_first follows.are));
       sent = Appends-trans before now after following.frames follows.frames following.sent follows.sent;
     }
 
     -- it ends between two steps
-    pub following_left : (end : FollowEnd) → EndsSoAt end (length found)
-        → HasFollowed A log end found durable before now
+    pub following_left : (end : FollowEnd) → EndsSoAt end (first + length found)
+        → HasFollowed A log first end found durable before now
     following_left end why = record {
       whole = found;
       left = [];
@@ -379,8 +387,8 @@ module _ (A : Type 0) (log : LogForm) where
     }
 
     pub following_stops : (fault : Fault) (now_found now_durable : List Entry) (after : Option (List ℕ))
-        → StopsFollowing A log fault found durable now_found now_durable now after
-        → HasFollowed A log (Stopped fault) now_found now_durable before after
+        → StopsFollowing A log now_first fault found durable now_found now_durable now after
+        → HasFollowed A log first (Stopped fault) now_found now_durable before after
     following_stops fault now_found now_durable after stops = elim stops [
       | unsynced more found_is durable_is same why ↦ record {
         whole = found;
@@ -389,22 +397,22 @@ module _ (A : Type 0) (log : LogForm) where
         frames = following.frames;
         are = following.are;
         part = [];
-        front = no_front (length found) more;
+        front = no_front (first + length found) more;
         synced = inr (refl, durable_is ∙ following.durable_is);
         sent = subst (λ (t : Option (List ℕ)). Appends before t (following.frames ++ [])) (sym same)
             (Appends-trans before now now following.frames [] following.sent (Appends-nil now));
-        why = why;
+        why = subst (λ (n : ℕ). EndsAt fault n) from_first why;
       }
       | unsent more found_is all sends ↦
-          let long : length found + length sends.whole ≡ length (found ++ sends.whole) =
-          sym (length-append found sends.whole) in
+          let long : now_first + length found + length sends.whole ≡ first + length (found ++ sends.whole) =
+          omega (arith, following.first_is, length-append found sends.whole) in
           record {
             whole = found ++ sends.whole;
             left = sends.left;
             found_is = found_is ∙ ap (λ (rs : List Entry). found ++ rs) sends.split
                 ∙ sym (append_assoc found sends.whole sends.left);
             frames = following.frames ++ sends.frames;
-            are = frames_append 0 found sends.whole following.frames sends.frames following.are
+            are = frames_append first found sends.whole following.frames sends.frames following.are
                 (subst (λ (n : ℕ). AreFramesOf A log n sends.whole sends.frames) from_first sends.are);
             part = sends.part;
             front = subst (λ (n : ℕ). IsFrontOfFirst A log n sends.left sends.part) long sends.front;
@@ -418,33 +426,33 @@ module _ (A : Type 0) (log : LogForm) where
 
   -- ---- one step
 
-  module _ (place : ℕ) (found durable mid_found mid_durable more : List Entry) (taken : Option (List ℕ))
-      (count : place ≡ length found) (found_is : mid_found ≡ found ++ more) (durable_is : mid_durable ≡ durable) where
-    pub step_starves : (fault : Fault) → EndsTrail fault (length found)
-        → StopsFollowing A log fault found durable mid_found mid_durable taken taken
-    step_starves fault why = unsynced more found_is durable_is refl (trail_ends fault (length found) why)
+  module _ (first place : ℕ) (found durable mid_found mid_durable more : List Entry) (taken : Option (List ℕ))
+      (count : place ≡ first + length found) (found_is : mid_found ≡ found ++ more) (durable_is : mid_durable ≡ durable) where
+    pub step_starves : (fault : Fault) → EndsTrail fault (first + length found)
+        → StopsFollowing A log first fault found durable mid_found mid_durable taken taken
+    step_starves fault why = unsynced more found_is durable_is refl (trail_ends fault (first + length found) why)
 
-    pub step_idle : more ≡ [] → Follows A log place found durable mid_found mid_durable taken taken
+    pub step_idle : more ≡ [] → Follows A log first place found durable mid_found mid_durable taken taken
     step_idle none = record {
       more = more;
       found_is = found_is;
-      count = count ∙ ap length (sym (append-nil found) ∙ ap (λ (rs : List Entry). found ++ rs) (sym none) ∙ sym found_is);
+      count = count ∙ ap (λ (rs : List Entry). first + length rs)
+          (sym (append-nil found) ∙ ap (λ (rs : List Entry). found ++ rs) (sym none) ∙ sym found_is);
       synced = inl (none, durable_is);
       frames = [];
-      are = subst (λ (rs : List Entry). AreFramesOf A log (length found) rs []) (sym none) refl;
+      are = subst (λ (rs : List Entry). AreFramesOf A log (first + length found) rs []) (sym none) refl;
       sent = Appends-nil taken;
     }
 
     module _ (now_found now_durable : List Entry) (still : now_found ≡ mid_found) where
       pub step_unsynced : (fault : Fault) → now_durable ≡ mid_durable → EndsSync fault
-          → StopsFollowing A log fault found durable now_found now_durable taken taken
+          → StopsFollowing A log first fault found durable now_found now_durable taken taken
       step_unsynced fault same why =
-          unsynced more (still ∙ found_is) (same ∙ durable_is) refl (sync_ends fault (length found) why)
+          unsynced more (still ∙ found_is) (same ∙ durable_is) refl (sync_ends fault (first + length found) why)
 
-      module _ (shown : List Entry) (after : Option (List ℕ)) (synced : now_durable ≡ mid_found)
-          (shown_is : shown ≡ more) where
+      module _ (shown : List Entry) (after : Option (List ℕ)) (synced : now_durable ≡ mid_found) (shown_is : shown ≡ more) where
         pub step_sent : (next : ℕ) → SendsFrames A log place shown next taken after
-            → Follows A log next found durable now_found now_durable taken after
+            → Follows A log first next found durable now_found now_durable taken after
         step_sent next sends = record {
           more = more;
           found_is = still ∙ found_is;
@@ -457,7 +465,7 @@ module _ (A : Type 0) (log : LogForm) where
         }
 
         pub step_unsent : (fault : Fault) → StopsSending A log place shown fault taken after
-            → StopsFollowing A log fault found durable now_found now_durable taken after
+            → StopsFollowing A log first fault found durable now_found now_durable taken after
         step_unsent fault stops =
             unsent more (still ∙ found_is) (synced ∙ sym still)
             (subst (λ (n : ℕ). StopsSending A log n more fault taken after) count

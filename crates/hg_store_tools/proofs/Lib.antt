@@ -5,6 +5,10 @@ mod Kept
 mod Parts
 mod Visits
 mod Files
+mod Places
+mod Walks
+mod Marked
+mod Indexes
 mod Logs
 mod Followings
 mod Reports

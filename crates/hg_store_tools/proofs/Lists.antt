@@ -16,16 +16,18 @@ use Rattle.hg_connection.specs.Sent.{Sends}
 use Rattle.hg_connection.specs.declared.sending.Sending.{Sending}
 use Rattle.hg_connection.specs.declared.sending.Sending.TheVariants.{Whole as sent_whole}
 use Rattle.hg_store_tools.specs.Canonical.{IsUncanonical}
-use Rattle.hg_store_tools.specs.Listing.{AreLines, IsLine, IsLineStop, IsListed, IsUnlisted, ListForm, ListsNoRecord}
-use Rattle.hg_store_tools.specs.Listing.{ListsRecord}
+use Rattle.hg_store_tools.specs.Listing.{AreLines, IsLine, IsLineStop, IsListed, IsListedOn, IsUnlisted, ListForm}
+use Rattle.hg_store_tools.specs.Listing.{ListsNoRecord, ListsRecord}
 use Rattle.hg_store_tools.specs.Listing.{headless, no_line, stopped, unread, unsent}
 use Rattle.hg_store_tools.specs.Reporting.{sending_fault}
-use Rattle.hg_store_tools.specs.Visiting.{Begins, StopsVisiting, Visits, VisitsEach, has_no_begin}
+use Rattle.hg_store_tools.specs.Visiting.{Begins, StopsVisiting, Visits, VisitsEach, VisitsFrom, has_no_begin}
 use Rattle.hg_store_tools.specs.Visiting.{failed as not_done, unread as not_read}
 use Rattle.hg_store_tools.specs.declared.fault.Fault.{Fault}
 use Rattle.hg_store_tools.specs.declared.fault.Fault.TheVariants.{NoMemory, Unsent}
 use Rattle.hg_store_tools.specs.declared.fault.StoreEnd.{StoreEnd}
-use Rattle.hg_store_tools.proofs.Files.{has_front, headless as has_no_head, is_read, is_unread_at, whole_file}
+use Rattle.hg_store_tools.proofs.Files.{from_front, has_front, headless as has_no_head, is_read, is_unread_at, whole_file}
+use Rattle.hg_store_tools.specs.declared.marks.Mark.{Mark}
+use Rattle.hg_store_tools.proofs.Places.{read_on, rest_of}
 use Rattle.hg_store_tools.proofs.Written.{fault_told, whole_sent}
 
 drop-none : (n : ℕ) → drop {A = Entry} n [] ≡ []
@@ -190,7 +192,9 @@ module _ (A : Type 0) (from : ℕ) (head : Head) (digest : List ℕ) (a b c : Op
               (is_unread_at head digest a b mid begins records tail each gone fault why)
               (from_first A (list_form head from) records sent.0 sent.1) sent.2,
         )
-    | not_done records entry mid each gone visited why ↦
+    | not_done records entry mid each gone visited here ↦
+        let why = subst (λ (n : ℕ). ListsNoRecord A (list_form head from) n entry fault (taken mid) (taken last))
+        (from_front (length records)) here in
         let all : Consumes b c (frames (version_of head) digest (records ++ entry ∷ []) ++ []) =
         subst (Consumes b c) (sym (append-nil (frames (version_of head) digest (records ++ entry ∷ [])))) gone in
         let at = whole_file head digest a b c begins (records ++ entry ∷ []) [] each all in
@@ -210,3 +214,25 @@ pub unlisted_headless : (A : Type 0) (from : ℕ) (fault : Fault) (a b : Option 
 unlisted_headless A from fault a b taken none =
     let at = has_no_head fault a b none in
     (at.0, at.1, headless at.2 refl)
+
+-- ---- from a mark on
+
+pub listed_on : (A : Type 0) (from : ℕ) (head : Head) (mark : Mark) (b c : Option (List ℕ)) {W : Type 0}
+    (taken : W → Option (List ℕ)) (first last : W) (ending : StoreEnd) → mark.place ≤ from
+    → VisitsFrom (Listing_step A (list_form head from) taken) head mark.place mark.digest b c ending first last
+    → (rest : List ℕ) × HasToGive b rest × IsListedOn A head mark rest from ending (taken first) (taken last)
+listed_on A from head mark b c taken first last ending within visits =
+    let at = rest_of head mark b c visits.records visits.tail visits.each visits.gone in
+    let sent = all_listed A (list_form head from) taken mark.place visits.records first last visits.visited in
+    let first_is : mark.place + (from - mark.place) ≡ from = omega (arith, within) in (
+      at.file,
+      at.is,
+      record {
+        records = visits.records;
+        read = read_on head mark b c visits.records visits.tail visits.each visits.gone ending visits.over visits.ends;
+        lines = sent.0;
+        are = subst (λ (n : ℕ). AreLines A head.limits n (drop (from - mark.place) visits.records) sent.0) first_is
+            sent.1;
+        sent = sent.2;
+      },
+    )

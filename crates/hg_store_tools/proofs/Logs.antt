@@ -17,18 +17,21 @@ use Rattle.hg_connection.specs.declared.sending.Sending.{Sending}
 use Rattle.hg_connection.specs.declared.sending.Sending.TheVariants.{Whole as sent_whole}
 use Rattle.hg_connection.proofs.DeviceLemmas.{Adds-nil, Adds-trans}
 use Rattle.hg_store_tools.specs.Canonical.{IsUncanonical}
-use Rattle.hg_store_tools.specs.Logging.{AreInForm, IsInForm, IsLogged, IsShelved, IsStop, IsUnlogged, LogForm}
+use Rattle.hg_store_tools.specs.Logging.{AreInForm, IsInForm, IsLogged, IsLoggedOn, IsShelved, IsShelvedOn, IsStop}
+use Rattle.hg_store_tools.specs.Logging.{IsUnlogged, LogForm}
 use Rattle.hg_store_tools.specs.Logging.{PutsRecord, SendsNoRecord, SendsRecord, numbered}
 use Rattle.hg_store_tools.specs.Logging.{headless, stopped, uncanonical, unread, unsent}
 use Rattle.hg_store_tools.specs.Reporting.{sending_fault}
-use Rattle.hg_store_tools.specs.Visiting.{Begins, StopsVisiting, Visits, VisitsEach, has_no_begin}
+use Rattle.hg_store_tools.specs.Visiting.{Begins, StopsVisiting, Visits, VisitsEach, VisitsFrom, has_no_begin}
 use Rattle.hg_store_tools.specs.Visiting.{failed as not_done, unread as not_read}
 use Rattle.hg_store_tools.specs.declared.fault.Fault.{Fault}
 use Rattle.hg_store_tools.specs.declared.fault.Fault.TheVariants.{NoMemory, Unsent}
 use Rattle.hg_store_tools.specs.declared.fault.StoreEnd.{StoreEnd}
 use Rattle.hg_store_tools.specs.declared.form.BundleForm.{BundleForm}
 use Rattle.hg_store_tools.specs.declared.form.BundleForm.TheVariants.{Stored, Canonical}
-use Rattle.hg_store_tools.proofs.Files.{has_front, headless as has_no_head, is_read, is_unread_at, whole_file}
+use Rattle.hg_store_tools.proofs.Files.{from_front, has_front, headless as has_no_head, is_read, is_unread_at, whole_file}
+use Rattle.hg_store_tools.specs.declared.marks.Mark.{Mark}
+use Rattle.hg_store_tools.proofs.Places.{read_on, rest_of}
 use Rattle.hg_store_tools.proofs.Written.{fault_told, whole_sent}
 
 none_in_form : (form : BundleForm) (A : Type 0) (limits : Limits) → AreInForm form A limits [] []
@@ -224,7 +227,9 @@ module _ (form : BundleForm) (A : Type 0) (from : ℕ) (head : Head) (digest : L
                 (is_unread_at head digest a b mid begins records tail each gone fault why)
                 (from_first A (log_form form head from) records sent.0 sent.1) sent.2,
           )
-      | not_done records entry mid each gone visited why ↦
+      | not_done records entry mid each gone visited here ↦
+          let why = subst (λ (n : ℕ). SendsNoRecord A (log_form form head from) n entry fault (taken mid) (taken last))
+          (from_front (length records)) here in
           let all : Consumes b c (frames (version_of head) digest (records ++ entry ∷ []) ++ []) =
           subst (Consumes b c) (sym (append-nil (frames (version_of head) digest (records ++ entry ∷ [])))) gone in
           let at = whole_file head digest a b c begins (records ++ entry ∷ []) [] each all in
@@ -265,3 +270,44 @@ pub unlogged_headless : (form : BundleForm) (A : Type 0) (from : ℕ) (fault : F
 unlogged_headless form A from fault a b taken none =
     let at = has_no_head fault a b none in
     (at.0, at.1, headless at.2 refl)
+
+-- ---- from a mark on
+
+module _ (form : BundleForm) (A : Type 0) (from : ℕ) (head : Head) (mark : Mark) (b c : Option (List ℕ)) where
+  pub logged_on : {W : Type 0} (taken : W → Option (List ℕ)) (first last : W) (ending : StoreEnd)
+      → VisitsFrom (Sending_step A (log_form form head from) taken) head mark.place mark.digest b c ending first last
+      → (rest : List ℕ) × HasToGive b rest
+      × IsLoggedOn form A head mark rest from ending (taken first) (taken last)
+  logged_on taken first last ending visits =
+      let at = rest_of head mark b c visits.records visits.tail visits.each visits.gone in
+      let sent = all_sent A (log_form form head from) taken mark.place visits.records first last visits.visited in (
+        at.file,
+        at.is,
+        record {
+          records = visits.records;
+          read = read_on head mark b c visits.records visits.tail visits.each visits.gone ending visits.over visits.ends;
+          bundles = sent.0;
+          are = sent.1;
+          sent = sent.2;
+        },
+      )
+
+  pub shelved_on : {S : Type 0} (has : S → Option (List (ℕ × List ℕ))) (first last : S) (ending : StoreEnd)
+      → mark.place ≤ from
+      → VisitsFrom (Putting_step A (log_form form head from) has) head mark.place mark.digest b c ending first last
+      → (rest : List ℕ) × HasToGive b rest
+      × IsShelvedOn form A head mark rest from ending (has first) (has last)
+  shelved_on has first last ending within visits =
+      let at = rest_of head mark b c visits.records visits.tail visits.each visits.gone in
+      let put = all_put A (log_form form head from) has mark.place visits.records first last visits.visited in
+      let first_is : mark.place + (from - mark.place) ≡ from = omega (arith, within) in (
+        at.file,
+        at.is,
+        record {
+          records = visits.records;
+          read = read_on head mark b c visits.records visits.tail visits.each visits.gone ending visits.over visits.ends;
+          bundles = put.0;
+          are = put.1;
+          put = subst (λ (n : ℕ). TellsMore (has first) (has last) (numbered n put.0)) first_is put.2;
+        },
+      )

@@ -20,7 +20,7 @@ use Rattle.hg_store_tools.specs.Visiting.{Begins, StopsVisiting, Visits, VisitsE
 use Rattle.hg_store_tools.specs.declared.fault.Fault.{Fault}
 use Rattle.hg_store_tools.specs.declared.fault.Fault.TheVariants.{NoMemory}
 use Rattle.hg_store_tools.specs.declared.fault.StoreEnd.{StoreEnd}
-use Rattle.hg_store_tools.proofs.Files.{has_front, headless, is_read, is_unread, is_unread_at, whole_file}
+use Rattle.hg_store_tools.proofs.Files.{from_front, has_front, headless, is_read, is_unread, is_unread_at, whole_file}
 
 last_is : (records : List Entry) (entry : Entry) → entry ≡ get_or (records ++ entry ∷ []) (length records) entry
 last_is [] entry = refl
@@ -91,7 +91,8 @@ module _ {A : Type 0} (head : Head) (digest : List ℕ) (a b c : Option (List �
           untold_unread (is_unread fault at.file head records (tail ++ at.rest) front
               (is_unread_at head digest a b mid begins records tail each gone fault why)),
         )
-    | failed records entry mid each gone visited why ↦
+    | failed records entry mid each gone visited here ↦
+        let why = subst (λ (n : ℕ). ReplaysNoRecord n entry fault mid) (from_front (length records)) here in
         let many = records ++ entry ∷ [] in
         let all : Consumes b c (frames (version_of head) digest many ++ []) =
         subst (Consumes b c) (sym (append-nil (frames (version_of head) digest many))) gone in

@@ -21,8 +21,8 @@ use Rattle.hg_store_tools.specs.declared.fault.Fault.TheVariants.{Missing, NoBun
 use Rattle.hg_store_tools.specs.declared.fault.Fault.TheVariants.{Torn as TornAt, Unsent, Upgraded}
 use Rattle.hg_store_tools.specs.declared.fault.StoreEnd.{StoreEnd}
 use Rattle.hg_store_tools.specs.declared.fault.StoreEnd.TheVariants.{Whole, Torn}
-use Rattle.hg_store_tools.specs.Visiting.{EndsAs, FailsAs, IsUnreadAt, StopsVisiting, Visits, VisitsEach, failed}
-use Rattle.hg_store_tools.specs.Visiting.{unread}
+use Rattle.hg_store_tools.specs.Visiting.{EndsAs, FailsAs, IsUnreadAt, StopsVisitingFrom, VisitsEach, VisitsFrom}
+use Rattle.hg_store_tools.specs.Visiting.{failed, unread}
 use Rattle.hg_store_tools.proofs.Frames.{each-push, frames-push, last_digest-push}
 
 visits-push : {T : Type 0} (step : ℕ → Entry → T → T → Type 0) (place : ℕ) (records : List Entry) (entry : Entry)
@@ -44,27 +44,28 @@ visits-push {T} step place (other ∷ records) entry first mid last visited done
 
 -- The reader gave these records, the last of which has that digest, and something was done with each.
 pub record HasVisited {T : Type 0} (step : ℕ → Entry → T → T → Type 0) (version : Version) (start digest : List ℕ)
-    (a b : Option (List ℕ)) (place : ℕ) (first last : T) : Type 0 where
+    (a b : Option (List ℕ)) (base place : ℕ) (first last : T) : Type 0 where
   pub records : List Entry
   pub each : AllByRecursion (IsRecord version) records
   pub gone : Consumes a b (frames version start records)
   pub digest_is : digest ≡ last_digest version start records
-  pub count : length records ≡ place
-  pub visited : VisitsEach step 0 records first last
+  pub count : base + length records ≡ place
+  pub visited : VisitsEach step base records first last
 
 pub visits_none : {T : Type 0} (step : ℕ → Entry → T → T → Type 0) (version : Version) (start : List ℕ)
-    (a : Option (List ℕ)) (first : T) → HasVisited step version start start a a 0 first first
-visits_none step version start a first = record {
+    (a : Option (List ℕ)) (base : ℕ) (first : T) → HasVisited step version start start a a base base first first
+visits_none step version start a base first = record {
   records = [];
   each = tt;
   gone = Consumes-nil a;
   digest_is = refl;
-  count = refl;
+  count = omega arith;
   visited = refl;
 }
 
 module _ {T : Type 0} (step : ℕ → Entry → T → T → Type 0) (version : Version) (start digest : List ℕ)
-    (a b : Option (List ℕ)) (place : ℕ) (first mid : T) (has : HasVisited step version start digest a b place first mid)
+    (a b : Option (List ℕ)) (base place : ℕ) (first mid : T)
+    (has : HasVisited step version start digest a b base place first mid)
   where
     pub more_gone : (c : Option (List ℕ)) (entry : Entry) → Consumes b c (frame version digest entry)
         → Consumes a c (frames version start (has.records ++ entry ∷ []))
@@ -76,9 +77,9 @@ module _ {T : Type 0} (step : ℕ → Entry → T → T → Type 0) (version : V
 
     pub visits_more : (c : Option (List ℕ)) (entry : Entry) (next : List ℕ) (last : T)
         → GivesRecord version digest b c entry next → step place entry mid last
-        → HasVisited step version start next a c (place + 1) first last
+        → HasVisited step version start next a c base (place + 1) first last
     visits_more c entry next last gives done =
-        let here : place ≡ 0 + length has.records = omega (arith, has.count) in
+        let here : place ≡ base + length has.records = omega (arith, has.count) in
         record {
           records = has.records ++ entry ∷ [];
           each = each-push version has.records entry has.each gives.is;
@@ -86,7 +87,7 @@ module _ {T : Type 0} (step : ℕ → Entry → T → T → Type 0) (version : V
           digest_is = gives.digest_is ∙ ap (λ (d : List ℕ). digest_of version d entry) has.digest_is
               ∙ sym (last_digest-push version start has.records entry);
           count = omega (arith, length-append has.records (entry ∷ []), has.count);
-          visited = visits-push step 0 has.records entry first mid last has.visited
+          visited = visits-push step base has.records entry first mid last has.visited
               (subst (λ (n : ℕ). step n entry mid last) here done);
         }
 
@@ -100,17 +101,17 @@ GivesNone stop version digest b c =
     (found : NoRecord) → stop ≡ no_record found → GivesNoRecord found version digest b c
 
 module _ {T : Type 0} (step : ℕ → Entry → T → T → Type 0) (head : Head) (start digest : List ℕ)
-    (a b : Option (List ℕ)) (place : ℕ) (first last : T)
-    (has : HasVisited step (version_of head) start digest a b place first last) where
+    (a b : Option (List ℕ)) (base place : ℕ) (first last : T)
+    (has : HasVisited step (version_of head) start digest a b base place first last) where
   visits_whole : (c : Option (List ℕ)) (ending : StoreEnd) (stop : RecordStop) → EndsAs ending place stop
-      → GivesNone stop (version_of head) digest b c → Visits step head start a c ending first last
+      → GivesNone stop (version_of head) digest b c → VisitsFrom step head base start a c ending first last
   visits_whole c Whole stop ends none =
       let gives = none at_end ends in
       record {
         records = has.records;
         tail = gives.tail;
         each = has.each;
-        gone = tail_gone step (version_of head) start digest a b place first last has c gives.tail gives.gone;
+        gone = tail_gone step (version_of head) start digest a b base place first last has c gives.tail gives.gone;
         ends = gives.stops;
         over = λ either. elim either [
           | inl empty ↦ gives.over (inl empty)
@@ -124,7 +125,7 @@ module _ {T : Type 0} (step : ℕ → Entry → T → T → Type 0) (head : Head
         records = has.records;
         tail = gives.tail;
         each = has.each;
-        gone = tail_gone step (version_of head) start digest a b place first last has c gives.tail gives.gone;
+        gone = tail_gone step (version_of head) start digest a b base place first last has c gives.tail gives.gone;
         ends = (ends.0 ∙ sym has.count, gives.stops);
         over = λ _. gives.over (inr refl);
         visited = has.visited;
@@ -132,18 +133,18 @@ module _ {T : Type 0} (step : ℕ → Entry → T → T → Type 0) (head : Head
 
   module _ (fails : ℕ → Entry → Fault → T → T → Type 0) where
     starves : (c : Option (List ℕ)) (fault : Fault) → IsUnreadAt fault (version_of head)
-        (last_digest (version_of head) start has.records) (length has.records) []
-        → StopsVisiting step fails head start a c fault first last
+        (last_digest (version_of head) start has.records) (base + length has.records) []
+        → StopsVisitingFrom step fails head base start a c fault first last
     starves c fault why =
         unread has.records [] b has.each
         (subst (Consumes a b) (sym (append-nil (frames (version_of head) start has.records))) has.gone) why has.visited
 
     visits_not : (c : Option (List ℕ)) (fault : Fault) (stop : RecordStop) → FailsAs fault place stop
-        → GivesNone stop (version_of head) digest b c → StopsVisiting step fails head start a c fault first last
+        → GivesNone stop (version_of head) digest b c → StopsVisitingFrom step fails head base start a c fault first last
     visits_not c (Damaged at) stop ends none =
         let gives = none damaged ends.1 in
         unread has.records gives.tail c has.each
-        (tail_gone step (version_of head) start digest a b place first last has c gives.tail gives.gone) (
+        (tail_gone step (version_of head) start digest a b base place first last has c gives.tail gives.gone) (
           ends.0 ∙ sym has.count,
           subst (λ (d : List ℕ). IsDamaged (version_of head) d gives.tail) has.digest_is gives.stops,
         )
@@ -163,42 +164,42 @@ module _ {T : Type 0} (step : ℕ → Entry → T → T → Type 0) (head : Head
 
 -- the same, where the version is that of the head
 pub visits_all : {T : Type 0} (step : ℕ → Entry → T → T → Type 0) (head : Head) (version : Version) (start digest : List ℕ)
-    (a b c : Option (List ℕ)) (place : ℕ) (first last : T) (ending : StoreEnd) (stop : RecordStop)
-    → version ≡ version_of head → HasVisited step version start digest a b place first last → EndsAs ending place stop
-    → GivesNone stop version digest b c → Visits step head start a c ending first last
-visits_all {T} step head version start digest a b c place first last ending stop is has ends none =
-    visits_whole step head start digest a b place first last
-    (subst (λ (v : Version). HasVisited step v start digest a b place first last) is has) c ending stop ends
+    (a b c : Option (List ℕ)) (base place : ℕ) (first last : T) (ending : StoreEnd) (stop : RecordStop)
+    → version ≡ version_of head → HasVisited step version start digest a b base place first last → EndsAs ending place stop
+    → GivesNone stop version digest b c → VisitsFrom step head base start a c ending first last
+visits_all {T} step head version start digest a b c base place first last ending stop is has ends none =
+    visits_whole step head start digest a b base place first last
+    (subst (λ (v : Version). HasVisited step v start digest a b base place first last) is has) c ending stop ends
     (subst (λ (v : Version). GivesNone stop v digest b c) is none)
 
 pub visits_unread : {T : Type 0} (step : ℕ → Entry → T → T → Type 0) (fails : ℕ → Entry → Fault → T → T → Type 0)
-    (head : Head) (version : Version) (start digest : List ℕ) (a b c : Option (List ℕ)) (place : ℕ) (first last : T)
+    (head : Head) (version : Version) (start digest : List ℕ) (a b c : Option (List ℕ)) (base place : ℕ) (first last : T)
     (fault : Fault) (stop : RecordStop) → version ≡ version_of head
-    → HasVisited step version start digest a b place first last → FailsAs fault place stop
-    → GivesNone stop version digest b c → StopsVisiting step fails head start a c fault first last
-visits_unread {T} step fails head version start digest a b c place first last fault stop is has ends none =
-    visits_not step head start digest a b place first last
-    (subst (λ (v : Version). HasVisited step v start digest a b place first last) is has) fails c fault stop ends
+    → HasVisited step version start digest a b base place first last → FailsAs fault place stop
+    → GivesNone stop version digest b c → StopsVisitingFrom step fails head base start a c fault first last
+visits_unread {T} step fails head version start digest a b c base place first last fault stop is has ends none =
+    visits_not step head start digest a b base place first last
+    (subst (λ (v : Version). HasVisited step v start digest a b base place first last) is has) fails c fault stop ends
     (subst (λ (v : Version). GivesNone stop v digest b c) is none)
 
 pub visits_cut_off : {T : Type 0} (step : ℕ → Entry → T → T → Type 0) (fails : ℕ → Entry → Fault → T → T → Type 0)
-    (head : Head) (version : Version) (start digest : List ℕ) (a b : Option (List ℕ)) (place : ℕ) (first last : T)
-    → version ≡ version_of head → HasVisited step version start digest a b place first last
-    → StopsVisiting step fails head start a b Failed first last
-visits_cut_off {T} step fails head version start digest a b place first last is has =
-    starves step head start digest a b place first last
-    (subst (λ (v : Version). HasVisited step v start digest a b place first last) is has) fails b Failed tt
+    (head : Head) (version : Version) (start digest : List ℕ) (a b : Option (List ℕ)) (base place : ℕ) (first last : T)
+    → version ≡ version_of head → HasVisited step version start digest a b base place first last
+    → StopsVisitingFrom step fails head base start a b Failed first last
+visits_cut_off {T} step fails head version start digest a b base place first last is has =
+    starves step head start digest a b base place first last
+    (subst (λ (v : Version). HasVisited step v start digest a b base place first last) is has) fails b Failed tt
 
 pub visits_failed : {T : Type 0} (step : ℕ → Entry → T → T → Type 0) (fails : ℕ → Entry → Fault → T → T → Type 0)
-    (head : Head) (version : Version) (start digest : List ℕ) (a b c : Option (List ℕ)) (place : ℕ) (first mid last : T)
+    (head : Head) (version : Version) (start digest : List ℕ) (a b c : Option (List ℕ)) (base place : ℕ) (first mid last : T)
     (fault : Fault) (entry : Entry) (next : List ℕ) → version ≡ version_of head
-    → HasVisited step version start digest a b place first mid → GivesRecord version digest b c entry next
-    → fails place entry fault mid last → StopsVisiting step fails head start a c fault first last
-visits_failed {T} step fails head version start digest a b c place first mid last fault entry next is has gives why =
-    let at = subst (λ (v : Version). HasVisited step v start digest a b place first mid) is has in
+    → HasVisited step version start digest a b base place first mid → GivesRecord version digest b c entry next
+    → fails place entry fault mid last → StopsVisitingFrom step fails head base start a c fault first last
+visits_failed {T} step fails head version start digest a b c base place first mid last fault entry next is has gives why =
+    let at = subst (λ (v : Version). HasVisited step v start digest a b base place first mid) is has in
     let given = subst (λ (v : Version). GivesRecord v digest b c entry next) is gives in
     failed at.records entry mid
     (each-push (version_of head) at.records entry at.each given.is)
-    (more_gone step (version_of head) start digest a b place first mid at c entry given.gone)
+    (more_gone step (version_of head) start digest a b base place first mid at c entry given.gone)
     at.visited
     (subst (λ (n : ℕ). fails n entry fault mid last) (sym at.count) why)

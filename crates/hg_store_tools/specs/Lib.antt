@@ -1,5 +1,6 @@
 pub mod Reading
 pub mod Visiting
+pub mod Places
 pub mod Reporting
 pub mod Canonical
 pub mod Logging

@@ -1,5 +1,5 @@
 -- The pushes of a store, a line for each.
-use Rattle.std.specs.Prelude.{ℕ, ◌≡◌, ◌≢◌, ◌⊎◌, ◌<◌, ◌≤◌, ◌+◌, ◌*◌, ◌/◌, ◌==◌, List, [], ◌∷◌, ◌++◌, Option, codes}
+use Rattle.std.specs.Prelude.{ℕ, ◌≡◌, ◌≢◌, ◌⊎◌, ◌<◌, ◌≤◌, ◌+◌, ◌-◌, ◌*◌, ◌/◌, ◌==◌, List, [], ◌∷◌, ◌++◌, Option, codes}
 use Rattle.std.specs.Prelude.{decimal, drop, length, ⊤, if◌then◌else◌}
 use Rattle.std.specs.List.{AllByRecursion, concat}
 use Rattle.std.specs.Io.KnownBytes.{Appends}
@@ -18,6 +18,8 @@ use Rattle.hg_store_tools.specs.Canonical.{IsUncanonical}
 use Rattle.hg_store_tools.specs.Date.{IsDateOf, day_text, days_of_years, time_text}
 use Rattle.hg_store_tools.specs.Reading.{HasFront, IsRead, IsUnread}
 use Rattle.hg_store_tools.specs.Visiting.{IsUnreadAt}
+use Rattle.hg_store_tools.specs.declared.marks.Mark.{Mark}
+use Rattle.hg_store_tools.specs.Places.{IsReadOn}
 
 -- The text of a time in milliseconds since 1970: the date of its second. It is `-` where the time is 0, and not known,
 -- or after the year 9999.
@@ -83,6 +85,22 @@ pub record IsListed (A : Type 0) (file : List ℕ) (from : ℕ) (ending : StoreE
   pub lines : List (List ℕ)
   pub are : AreLines A head.limits from (drop from records) lines
   pub sent : Appends before after (concat lines)
+
+-- The rest of a store behind a mark is records, and the lines of those from a place on were written, one after the
+-- other.
+pub record IsListedOn (A : Type 0) (head : Head) (mark : Mark) (rest : List ℕ) (from : ℕ) (ending : StoreEnd)
+    (before after : Option (List ℕ)) : Type 0 where
+  pub records : List Entry
+  pub read : IsReadOn head mark rest records ending
+  pub lines : List (List ℕ)
+  pub are : AreLines A head.limits from (drop (from - mark.place) records) lines
+  pub sent : Appends before after (concat lines)
+
+-- The lines of the pushes of a store from a place on were written: of those that stand behind some mark, which is not
+-- behind that place.
+abbrev pub ListsFrom : Type 0 → ℕ → StoreEnd → Option (List ℕ) → Option (List ℕ) → Type 0
+ListsFrom A from ending before after = (head : Head) × (mark : Mark) × (rest : List ℕ) × (mark.place ≤ from)
+    × IsListedOn A head mark rest from ending before after
 
 -- Why not all lines were written. The file has no head, and nothing was written. Or the lines of its first records
 -- were, from a place on: then it is damaged, or was not read on; or the next record's was not written, or a front of

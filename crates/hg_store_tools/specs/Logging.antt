@@ -1,5 +1,5 @@
 -- The pushes of a store, each as its bundle.
-use Rattle.std.specs.Prelude.{ℕ, ◌≡◌, ◌⊎◌, ◌<◌, ◌≤◌, ◌+◌, List, [], ◌∷◌, ◌++◌, Option, drop, length, ⊤}
+use Rattle.std.specs.Prelude.{ℕ, ◌≡◌, ◌⊎◌, ◌<◌, ◌≤◌, ◌+◌, ◌-◌, List, [], ◌∷◌, ◌++◌, Option, drop, length, ⊤}
 use Rattle.std.specs.List.{AllByRecursion, concat}
 use Rattle.std.specs.Io.KnownBytes.{Appends}
 use Rattle.hg_types.specs.declared.limits.Limits.{Limits}
@@ -18,6 +18,8 @@ use Rattle.hg_store_tools.specs.declared.form.Formed.{Formed}
 use Rattle.hg_store_tools.specs.declared.form.Formed.TheVariants.{Stored as StoredBytes, Canonical as CanonicalBytes}
 use Rattle.hg_store_tools.specs.Reading.{HasFront, IsRead, IsUnread}
 use Rattle.hg_store_tools.specs.Visiting.{IsUnreadAt}
+use Rattle.hg_store_tools.specs.declared.marks.Mark.{Mark}
+use Rattle.hg_store_tools.specs.Places.{IsReadOn}
 
 -- the bundle that is written of a stored one, in that form
 abbrev pub IsInForm : BundleForm → Type 0 → Limits → List ℕ → List ℕ → Type 0
@@ -78,6 +80,22 @@ pub record IsLogged (form : BundleForm) (A : Type 0) (file : List ℕ) (from : �
   pub are : AreInForm form A head.limits (drop from records) bundles
   pub sent : Appends before after (concat bundles)
 
+-- The rest of a store behind a mark is records, whose bundles from a place on were written in that form, one after the
+-- other.
+pub record IsLoggedOn (form : BundleForm) (A : Type 0) (head : Head) (mark : Mark) (rest : List ℕ) (from : ℕ)
+    (ending : StoreEnd) (before after : Option (List ℕ)) : Type 0 where
+  pub records : List Entry
+  pub read : IsReadOn head mark rest records ending
+  pub bundles : List (List ℕ)
+  pub are : AreInForm form A head.limits (drop (from - mark.place) records) bundles
+  pub sent : Appends before after (concat bundles)
+
+-- The bundles of a store from a place on were written in that form: those that stand behind some mark, which is not
+-- behind that place.
+abbrev pub LogsFrom : BundleForm → Type 0 → ℕ → StoreEnd → Option (List ℕ) → Option (List ℕ) → Type 0
+LogsFrom form A from ending before after = (head : Head) × (mark : Mark) × (rest : List ℕ) × (mark.place ≤ from)
+    × IsLoggedOn form A head mark rest from ending before after
+
 -- The file is a store, whose bundles from a place on were put on a shelf in that form, each at its place.
 pub record IsShelved (form : BundleForm) (A : Type 0) (file : List ℕ) (from : ℕ) (ending : StoreEnd)
     (before after : Option (List (ℕ × List ℕ))) : Type 0 where
@@ -86,6 +104,16 @@ pub record IsShelved (form : BundleForm) (A : Type 0) (file : List ℕ) (from : 
   pub read : IsRead file head records ending
   pub bundles : List (List ℕ)
   pub are : AreInForm form A head.limits (drop from records) bundles
+  pub put : TellsMore before after (numbered from bundles)
+
+-- The rest of a store behind a mark is records, whose bundles from a place on were put on a shelf in that form, each at
+-- its place.
+pub record IsShelvedOn (form : BundleForm) (A : Type 0) (head : Head) (mark : Mark) (rest : List ℕ) (from : ℕ)
+    (ending : StoreEnd) (before after : Option (List (ℕ × List ℕ))) : Type 0 where
+  pub records : List Entry
+  pub read : IsReadOn head mark rest records ending
+  pub bundles : List (List ℕ)
+  pub are : AreInForm form A head.limits (drop (from - mark.place) records) bundles
   pub put : TellsMore before after (numbered from bundles)
 
 -- Why not all bundles were written. The file has no head, and nothing was written. Or the bundles of its first records

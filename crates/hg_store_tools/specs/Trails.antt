@@ -30,7 +30,8 @@ EndsSync Failed = ⊤
 EndsSync other = ⊥
 
 -- what is written of the record at a place: nothing before those that are asked for, and then its frame, with its
--- bundle in the form that is asked for
+-- bundle
+-- in the form that is asked for
 abbrev pub IsFrameOf : Type 0 → LogForm → ℕ → Entry → List ℕ → Type 0
 IsFrameOf A log place entry frame = ((place < log.from) × (frame ≡ [])) ⊎ ((log.from ≤ place)
     × (bundle : List ℕ) × IsInForm log.form A log.limits entry.bundle bundle
@@ -91,27 +92,28 @@ pub record StopsSending (A : Type 0) (log : LogForm) (place : ℕ) (records : Li
   pub why : EndsAt fault (place + length whole)
 
 -- More records were found, or none, and their frames were written. So many are found now, and where there are more than
--- before all of them are durable.
-pub record Follows (A : Type 0) (log : LogForm) (next : ℕ) (found durable now_found now_durable : List Entry)
+-- before all of them are durable. The first that was ever found is at that place.
+pub record Follows (A : Type 0) (log : LogForm) (first next : ℕ) (found durable now_found now_durable : List Entry)
     (before after : Option (List ℕ)) : Type 0 where
   pub more : List Entry
   pub found_is : now_found ≡ found ++ more
-  pub count : next ≡ length now_found
+  pub count : next ≡ first + length now_found
   pub synced : ((more ≡ []) × (now_durable ≡ durable)) ⊎ (now_durable ≡ now_found)
   pub frames : List ℕ
-  pub are : AreFramesOf A log (length found) more frames
+  pub are : AreFramesOf A log (first + length found) more frames
   pub sent : Appends before after frames
 
 -- More records were found, or none. Nothing was written, and no other is durable than before; or all are durable, and
--- the frames of the first of them were written, and at most a front of the next one's.
-pub data StopsFollowing (A : Type 0) (log : LogForm) (fault : Fault) (found durable now_found now_durable : List Entry)
-    (before after : Option (List ℕ)) : Type 0 where
+-- the
+-- frames of the first of them were written, and at most a front of the next one's.
+pub data StopsFollowing (A : Type 0) (log : LogForm) (first : ℕ) (fault : Fault)
+    (found durable now_found now_durable : List Entry) (before after : Option (List ℕ)) : Type 0 where
   unsynced : (more : List Entry) → now_found ≡ found ++ more → now_durable ≡ durable → after ≡ before →
-      EndsAt fault (length found) →
-      StopsFollowing A log fault found durable now_found now_durable before after
+      EndsAt fault (first + length found) →
+      StopsFollowing A log first fault found durable now_found now_durable before after
   unsent : (more : List Entry) → now_found ≡ found ++ more → now_durable ≡ now_found →
-      StopsSending A log (length found) more fault before after →
-      StopsFollowing A log fault found durable now_found now_durable before after
+      StopsSending A log (first + length found) more fault before after →
+      StopsFollowing A log first fault found durable now_found now_durable before after
 
 -- why a store is followed no more, by where the next frame would stand
 abbrev pub EndsSoAt : FollowEnd → ℕ → Type 0
@@ -119,22 +121,23 @@ EndsSoAt Left place = ⊤
 EndsSoAt (Stopped fault) place = EndsAt fault place
 
 -- The frames of the first of the records that were found were written, from the place on that was asked for and each
--- once, and at most a front of the next one's. All of these records are durable.
-pub record HasFollowed (A : Type 0) (log : LogForm) (end : FollowEnd) (found durable : List Entry)
+-- once, and at most a front of the next one's. All of these records are durable. The first of them is at that place.
+pub record HasFollowed (A : Type 0) (log : LogForm) (first : ℕ) (end : FollowEnd) (found durable : List Entry)
     (before after : Option (List ℕ)) : Type 0 where
   pub whole : List Entry
   pub left : List Entry
   pub found_is : found ≡ whole ++ left
   pub frames : List ℕ
-  pub are : AreFramesOf A log 0 whole frames
+  pub are : AreFramesOf A log first whole frames
   pub part : List ℕ
-  pub front : IsFrontOfFirst A log (length whole) left part
+  pub front : IsFrontOfFirst A log (first + length whole) left part
   pub synced : (durable ≡ found) ⊎ ((part ≡ []) × (durable ≡ whole))
   pub sent : Appends before after (frames ++ part)
-  pub why : EndsSoAt end (length whole)
+  pub why : EndsSoAt end (first + length whole)
 
 -- Nothing was written, since the file has no head or was not read; or the frames of records that were found in it, each
--- durable.
+-- durable. The first that was looked for is not behind the place from which on they are written.
 abbrev pub IsFollowed : BundleForm → Type 0 → ℕ → FollowEnd → Option (List ℕ) → Option (List ℕ) → Type 0
 IsFollowed form A from end before after = (after ≡ before) ⊎ ((log : LogForm) × (log.form ≡ form) × (log.from ≡ from)
-    × (found : List Entry) × (durable : List Entry) × HasFollowed A log end found durable before after)
+    × (first : ℕ) × (first ≤ from) × (found : List Entry) × (durable : List Entry)
+    × HasFollowed A log first end found durable before after)

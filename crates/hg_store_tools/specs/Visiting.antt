@@ -55,29 +55,41 @@ VisitsEach step place [] first last = last ≡ first
 VisitsEach {T} step place (entry ∷ others) first last =
     (mid : T) × step place entry first mid × VisitsEach step (place + 1) others mid last
 
--- A reader gave these records after a head and no more, and the store ends so. Something was done with each.
-pub record Visits {T : Type 0} (step : ℕ → Entry → T → T → Type 0) (head : Head) (digest : List ℕ)
+-- A reader gave these records of a store and no more, the first at this place and after that digest, and the store ends
+-- so. Something was done with each.
+pub record VisitsFrom {T : Type 0} (step : ℕ → Entry → T → T → Type 0) (head : Head) (place : ℕ) (digest : List ℕ)
     (before after : Option (List ℕ)) (ending : StoreEnd) (first last : T) : Type 0 where
   pub records : List Entry
   pub tail : List ℕ
   pub each : AllByRecursion (IsRecord (version_of head)) records
   pub gone : Consumes before after (frames (version_of head) digest records ++ tail)
-  pub ends : EndsSo ending (version_of head) (length records) tail
+  pub ends : EndsSo ending (version_of head) (place + length records) tail
   pub over : (tail ≡ []) ⊎ (ending ≢ Whole) → IsAtEnd after
-  pub visited : VisitsEach step 0 records first last
+  pub visited : VisitsEach step place records first last
+
+-- the same of those after the head
+abbrev pub Visits : {T : Type 0} → (ℕ → Entry → T → T → Type 0) → Head → List ℕ → Option (List ℕ) → Option (List ℕ)
+    → StoreEnd → T → T → Type 0
+Visits step head digest before after ending first last = VisitsFrom step head 0 digest before after ending first last
 
 -- Something was done with each of some records. Then none was read; or it was not done with the next one.
-pub data StopsVisiting {T : Type 0} (step : ℕ → Entry → T → T → Type 0)
-    (fails : ℕ → Entry → Fault → T → T → Type 0) (head : Head) (digest : List ℕ) (before after : Option (List ℕ))
-    (fault : Fault) (first last : T) : Type 0 where
+pub data StopsVisitingFrom {T : Type 0} (step : ℕ → Entry → T → T → Type 0)
+    (fails : ℕ → Entry → Fault → T → T → Type 0) (head : Head) (place : ℕ) (digest : List ℕ)
+    (before after : Option (List ℕ)) (fault : Fault) (first last : T) : Type 0 where
   unread : (records : List Entry) (tail : List ℕ) (mid : Option (List ℕ)) →
       AllByRecursion (IsRecord (version_of head)) records →
       Consumes before mid (frames (version_of head) digest records ++ tail) →
-      IsUnreadAt fault (version_of head) (last_digest (version_of head) digest records) (length records) tail →
-      VisitsEach step 0 records first last →
-      StopsVisiting step fails head digest before after fault first last
+      IsUnreadAt fault (version_of head) (last_digest (version_of head) digest records) (place + length records) tail →
+      VisitsEach step place records first last →
+      StopsVisitingFrom step fails head place digest before after fault first last
   failed : (records : List Entry) (entry : Entry) (mid : T) →
       AllByRecursion (IsRecord (version_of head)) (records ++ entry ∷ []) →
       Consumes before after (frames (version_of head) digest (records ++ entry ∷ [])) →
-      VisitsEach step 0 records first mid → fails (length records) entry fault mid last →
-      StopsVisiting step fails head digest before after fault first last
+      VisitsEach step place records first mid → fails (place + length records) entry fault mid last →
+      StopsVisitingFrom step fails head place digest before after fault first last
+
+-- the same of those after the head
+abbrev pub StopsVisiting : {T : Type 0} → (ℕ → Entry → T → T → Type 0) → (ℕ → Entry → Fault → T → T → Type 0) → Head
+    → List ℕ → Option (List ℕ) → Option (List ℕ) → Fault → T → T → Type 0
+StopsVisiting step fails head digest before after fault first last =
+    StopsVisitingFrom step fails head 0 digest before after fault first last

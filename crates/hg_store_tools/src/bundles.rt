@@ -1,14 +1,16 @@
 //! The pushes of a store, each as its bundle: one after the other to a writer, or each to a place of its own.
 
-ghost use Rattle.std.specs.Prelude.{◌≡◌, ◌∷◌, [], ℕ, List, Option, IfErr, IfOk, OnErr, OnOk};
+ghost use Rattle.std.specs.Prelude.{◌≡◌, ◌≤◌, ◌∷◌, [], ℕ, List, Option, IfErr, IfOk, OnErr, OnOk};
 ghost use Rattle.hg_connection.specs.Devices.{TellsMore};
+ghost use Rattle.hg_store.specs.Head.{IsHead};
 ghost use Rattle.hg_store.specs.Pieces.{HasToGive};
-ghost use Rattle.hg_store_tools.specs.Logging.{IsLogged, IsShelved, IsUnlogged};
+ghost use Rattle.hg_store_tools.specs.Logging.{IsLogged, IsLoggedOn, IsShelved, IsShelvedOn, IsUnlogged};
 
 use crate::fault::{Fault, StoreEnd};
 use crate::form::{BundleForm, in_form};
+use crate::marks::StoreStart;
 use crate::report::sent;
-use crate::visit::{RecordVisit, begin, visit_records};
+use crate::visit::{Beginning, RecordVisit, begin, visit_from, visit_records};
 use hg_connection::Writer;
 use hg_store::Entry;
 use hg_types::Limits;
@@ -127,6 +129,34 @@ pub fn send_log<R: Read, W: Writer, A: Allocator + Copy>(
     visit_records(alloc, &begun, reader, &logging, writer)
 }
 
+/// Writes the bundles of a store that the reader gives from a mark on, as [`send_log`] writes them. Each stands behind
+/// the mark, whole, and goes on from its digest.
+pub fn send_log_on<R: Read, W: Writer, A: Allocator + Copy>(
+    alloc: A,
+    start: &StoreStart,
+    reader: &mut R,
+    from: usize,
+    form: BundleForm,
+    writer: &mut W,
+) -> Result<StoreEnd, Fault>
+    requires { IsHead start.now.head }
+    ensures { IfOk result (λ ending. (rest : List ℕ) × HasToGive (R.remaining reader.old) rest
+        × IsLoggedOn form A start.now.head start.now.mark rest from ending (W.told writer.old).taken
+        (W.told writer.new).taken) }
+{
+    let logging = Logging {
+        alloc,
+        limits: start.head.limits,
+        from,
+        form,
+    };
+    let begun = Beginning {
+        head: start.head,
+        digest: start.mark.digest,
+    };
+    visit_from(alloc, &begun, start.mark.place, reader, &logging, writer)
+}
+
 /// Puts the bundles of a store that the reader gives on a shelf, as [`send_log`] writes them.
 pub fn put_log<R: Read, S: BundleSink, A: Allocator + Copy>(
     alloc: A,
@@ -149,4 +179,32 @@ pub fn put_log<R: Read, S: BundleSink, A: Allocator + Copy>(
         form,
     };
     visit_records(alloc, &begun, reader, &Shelving { log }, shelf)
+}
+
+/// Puts the bundles of a store that the reader gives from a mark on, as [`put_log`] puts them.
+pub fn put_log_on<R: Read, S: BundleSink, A: Allocator + Copy>(
+    alloc: A,
+    start: &StoreStart,
+    reader: &mut R,
+    from: usize,
+    form: BundleForm,
+    shelf: &mut S,
+) -> Result<StoreEnd, Fault>
+    requires head { IsHead start.now.head }
+    requires mark { start.now.mark.place ≤ from }
+    ensures { IfOk result (λ ending. (rest : List ℕ) × HasToGive (R.remaining reader.old) rest
+        × IsShelvedOn form A start.now.head start.now.mark rest from ending (S.has shelf.old) (S.has shelf.new)) }
+{
+    let log = Logging {
+        alloc,
+        limits: start.head.limits,
+        from,
+        form,
+    };
+    let begun = Beginning {
+        head: start.head,
+        digest: start.mark.digest,
+    };
+    let shelving = Shelving { log };
+    visit_from(alloc, &begun, start.mark.place, reader, &shelving, shelf)
 }

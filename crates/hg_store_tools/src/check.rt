@@ -4,10 +4,12 @@ ghost use Rattle.std.specs.Prelude.{ℕ, List, IfErr, IfOk};
 ghost use Rattle.hg_store.specs.Entries.{Entry as AnyEntry};
 ghost use Rattle.hg_store.specs.Pieces.{HasToGive};
 ghost use Rattle.hg_store.specs.declared.head.Head.{Head as AnyHead};
+ghost use Rattle.hg_store_tools.specs.Places.{IsReadOn, IsUnreadOn};
 ghost use Rattle.hg_store_tools.specs.Reading.{IsRead, IsUnread};
 
 use crate::fault::{Fault, StoreEnd};
-use crate::visit::{RecordVisit, begin, visit_records};
+use crate::marks::StoreStart;
+use crate::visit::{Beginning, RecordVisit, begin, visit_from, visit_records};
 use hg_store::Entry;
 use std::alloc::Allocator;
 use std::io::Read;
@@ -45,4 +47,22 @@ pub fn check_records<R: Read, A: Allocator + Copy>(
         Err(fault) => return Err(fault),
     };
     visit_records(alloc, &begun, reader, &Passing, &mut ())
+}
+
+/// Reads all records of a store that the reader gives from a mark on, as [`check_records`] does.
+pub fn check_records_on<R: Read, A: Allocator + Copy>(
+    alloc: A,
+    start: &StoreStart,
+    reader: &mut R,
+) -> Result<StoreEnd, Fault>
+    ensures ok { IfOk result (λ ending. (rest : List ℕ) × HasToGive (R.remaining reader.old) rest
+        × (records : List AnyEntry) × IsReadOn start.now.head start.now.mark rest records ending) }
+    ensures err { IfErr result (λ fault. (rest : List ℕ) × HasToGive (R.remaining reader.old) rest
+        × IsUnreadOn start.now.head start.now.mark rest fault) }
+{
+    let begun = Beginning {
+        head: start.head,
+        digest: start.mark.digest,
+    };
+    visit_from(alloc, &begun, start.mark.place, reader, &Passing, &mut ())
 }

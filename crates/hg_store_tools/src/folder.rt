@@ -1,22 +1,24 @@
 //! A store in its folder.
 
-ghost use Rattle.std.specs.Prelude.{ℕ, List, IfOk};
+ghost use Rattle.std.specs.Prelude.{◌≤◌, ℕ, List, IfOk};
 ghost use Rattle.hg_connection.specs.declared.sending.Sending.TheVariants.{Whole as sent_whole};
 ghost use Rattle.hg_connection.specs.Sent.{Sends};
-ghost use Rattle.hg_store_tools.specs.Listing.{IsListed};
-ghost use Rattle.hg_store_tools.specs.Logging.{IsLogged};
+ghost use Rattle.hg_store.specs.Head.{IsHead};
+ghost use Rattle.hg_store_tools.specs.Listing.{ListsFrom};
+ghost use Rattle.hg_store_tools.specs.Logging.{LogsFrom};
 ghost use Rattle.hg_store_tools.specs.Reporting.{Reports};
 
-use crate::bundles::{put_log, send_log};
+use crate::bundles::{put_log_on, send_log_on};
 use crate::cut::{CutFault, CutFiles, put_cut};
 use crate::fault::{ArchiveFault, Fault, NamedFile, StoreEnd};
 use crate::filling::NewStore;
 use crate::form::BundleForm;
 use crate::host::{
-    FolderShelf, StoreLink, StoreReads, checked_reader, fault_of_store, find_place, first_reader,
+    FolderShelf, StoreLink, StoreReads, checked_start, fault_of_store, find_place, first_reader,
     store_reader,
 };
-use crate::listing::send_list;
+use crate::listing::send_list_on;
+use crate::marks::StoreStart;
 use crate::report::send_report;
 use crate::upgrade::put_upgrade;
 use hg_connection::Writer;
@@ -26,6 +28,7 @@ use hg_store::{
 use std::alloc::Allocator;
 use std::fs::{File, Files};
 use std::hash::RandomState;
+use std::io::BufReader;
 
 /// Writes the report of the store in a folder, as [`send_report`] does, also while another process holds it.
 /// Nothing is changed, and nothing is held.
@@ -48,8 +51,8 @@ pub fn report_store<'a, R: Files<File = File>, A: Allocator + Copy, W: Writer>(
 }
 
 /// Writes the bundles of the store in a folder, from a place on, in that form, as [`send_log`] does, also while another
-/// process holds it. Nothing is changed, and nothing is held. The store is read twice: of a damaged one nothing is
-/// written.
+/// process holds it. Nothing is changed but its index, and nothing is held. The store is read twice, from the last mark
+/// before that place on that its index has: of one that is damaged there nothing is written.
 pub fn log_store<'a, R: Files<File = File>, A: Allocator + Copy, W: Writer>(
     files: &R,
     alloc: A,
@@ -58,22 +61,18 @@ pub fn log_store<'a, R: Files<File = File>, A: Allocator + Copy, W: Writer>(
     form: BundleForm,
     writer: &mut W,
 ) -> Result<StoreEnd, ArchiveFault<'a>>
-    ensures { IfOk result (λ ending. (file : List ℕ)
-        × IsLogged form A file from ending (W.told writer.old).taken (W.told writer.new).taken) }
+    ensures { IfOk result (λ ending. LogsFrom form A from ending (W.told writer.old).taken (W.told writer.new).taken) }
 {
-    let mut reader = about(
-        checked_reader(files, alloc, folder),
-        NamedFile::Store(folder),
-    )?;
-    match send_log(alloc, &mut reader, from, form, writer) {
+    let (start, mut reader) = log_start(files, alloc, folder, from)?;
+    match send_log_on(alloc, &start, &mut reader, from, form, writer) {
         Ok(ending) => Ok(ending),
         Err(fault) => Err(sending_fault(folder, fault)),
     }
 }
 
 /// Writes a line for each push of the store in a folder, from a place on, as [`send_list`] does, also while another
-/// process holds it. Nothing is changed, and nothing is held. The store is read twice: of a damaged one nothing is
-/// written.
+/// process holds it. Nothing is changed but its index, and nothing is held. The store is read twice, from the last mark
+/// before that place on that its index has: of one that is damaged there nothing is written.
 pub fn list_store<'a, R: Files<File = File>, A: Allocator + Copy, W: Writer>(
     files: &R,
     alloc: A,
@@ -81,14 +80,10 @@ pub fn list_store<'a, R: Files<File = File>, A: Allocator + Copy, W: Writer>(
     from: usize,
     writer: &mut W,
 ) -> Result<StoreEnd, ArchiveFault<'a>>
-    ensures { IfOk result (λ ending. (file : List ℕ)
-        × IsListed A file from ending (W.told writer.old).taken (W.told writer.new).taken) }
+    ensures { IfOk result (λ ending. ListsFrom A from ending (W.told writer.old).taken (W.told writer.new).taken) }
 {
-    let mut reader = about(
-        checked_reader(files, alloc, folder),
-        NamedFile::Store(folder),
-    )?;
-    match send_list(alloc, &mut reader, from, writer) {
+    let (start, mut reader) = log_start(files, alloc, folder, from)?;
+    match send_list_on(alloc, &start, &mut reader, from, writer) {
         Ok(ending) => Ok(ending),
         Err(fault) => Err(sending_fault(folder, fault)),
     }
@@ -106,13 +101,10 @@ pub fn file_log<'a, R: Files<File = File>, A: Allocator + Copy>(
     form: BundleForm,
     to: &'a str,
 ) -> Result<StoreEnd, ArchiveFault<'a>> {
-    let mut reader = about(
-        checked_reader(files, alloc, folder),
-        NamedFile::Store(folder),
-    )?;
+    let (start, mut reader) = log_start(files, alloc, folder, from)?;
     about_store(make_folder(files, alloc, to), NamedFile::Folder(to))?;
     let mut shelf = FolderShelf::of(files, alloc, to);
-    match put_log(alloc, &mut reader, from, form, &mut shelf) {
+    match put_log_on(alloc, &start, &mut reader, from, form, &mut shelf) {
         Ok(ending) => Ok(ending),
         Err(fault) => Err(ArchiveFault {
             file: shelf_name(folder, to, shelf.place, fault),
@@ -187,6 +179,25 @@ pub fn upgrade_store<'a, R: Files<File = File>, A: Allocator + Copy>(
             made.file().remove();
             Err(named(fault, folder, NamedFile::Old(folder)))
         }
+    }
+}
+
+/// Where a log of the store in a folder that begins at that place begins to read, as [`checked_start`] says.
+fn log_start<'a, R: Files<File = File>, A: Allocator + Copy>(
+    files: &R,
+    alloc: A,
+    folder: &'a str,
+    from: usize,
+) -> Result<(StoreStart, BufReader<File, A>), ArchiveFault<'a>>
+    ensures head { IfOk result (λ found. IsHead found.0.head) }
+    ensures mark { IfOk result (λ found. found.0.mark.place ≤ from) }
+{
+    match checked_start(files, alloc, folder, from) {
+        Ok(found) => Ok(found),
+        Err(fault) => Err(ArchiveFault {
+            file: NamedFile::Store(folder),
+            fault,
+        }),
     }
 }
 

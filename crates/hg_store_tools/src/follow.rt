@@ -1,6 +1,6 @@
 //! A store that is followed: the frame of each push is written once it is durable.
 
-ghost use Rattle.std.specs.Prelude.{◌≡◌, ◌++◌, [], ℕ, List, IfErr, IfOk, OnErr, OnOk, length};
+ghost use Rattle.std.specs.Prelude.{◌≡◌, ◌+◌, ◌++◌, [], ℕ, List, IfErr, IfOk, OnErr, OnOk, length};
 ghost use Rattle.hg_store.specs.Entries.{Entry as AnyEntry};
 ghost use Rattle.hg_store_tools.specs.Trails.{EndsSync, EndsTrail, Follows, HasFollowed, SendsFrame, SendsFrames};
 ghost use Rattle.hg_store_tools.specs.Trails.{SendsNoFrame, StopsFollowing, StopsSending, with_next};
@@ -24,6 +24,9 @@ pub trait StoreTrail<A: Allocator> {
     /// The records that were found in it, in their order, each behind an open gate.
     ghost found: { Self → List AnyEntry };
 
+    /// The place of the first of them.
+    ghost first: { Self → ℕ };
+
     /// Those of them that are durable: they were found before a sync that answered Ok.
     ghost durable: { Self → List AnyEntry };
 
@@ -32,13 +35,15 @@ pub trait StoreTrail<A: Allocator> {
         ensures found { IfOk result (λ next. found self.new ≡ with_next (found self.old) next) }
         ensures none { OnErr result (found self.new ≡ found self.old) }
         ensures durable { durable self.new ≡ durable self.old }
-        ensures why { IfErr result (λ fault. EndsTrail fault (length (found self.old))) };
+        ensures first { first self.new ≡ first self.old }
+        ensures why { IfErr result (λ fault. EndsTrail fault (first self.old + length (found self.old))) };
 
     /// Brings the file to the device, whoever wrote it.
     fn sync(&mut self) -> Result<(), Fault>
         ensures durable { OnOk result (durable self.new ≡ found self.old) }
         ensures not { OnErr result (durable self.new ≡ durable self.old) }
         ensures found { found self.new ≡ found self.old }
+        ensures first { first self.new ≡ first self.old }
         ensures why { IfErr result EndsSync };
 }
 
@@ -51,7 +56,8 @@ fn find_more<T: StoreTrail<A>, A: Allocator + Copy>(
     ensures found { IfOk result (λ more. T.found trail.new ≡ T.found trail.old ++ more.items) }
     ensures some { (more : List AnyEntry) × (T.found trail.new ≡ T.found trail.old ++ more) }
     ensures durable { T.durable trail.new ≡ T.durable trail.old }
-    ensures why { IfErr result (λ fault. EndsTrail fault (length (T.found trail.old))) }
+    ensures first { T.first trail.new ≡ T.first trail.old }
+    ensures why { IfErr result (λ fault. EndsTrail fault (T.first trail.old + length (T.found trail.old))) }
 {
     let mut more = Vec::new(alloc);
     let mut size = 0usize;
@@ -134,10 +140,11 @@ pub(crate) fn follow_on<T: StoreTrail<A>, W: Writer, A: Allocator + Copy>(
     place: usize,
     writer: &mut W,
 ) -> Result<usize, Fault>
-    requires { place ≡ length (T.found trail.old) }
-    ensures ok { IfOk result (λ next. Follows A log.now next (T.found trail.old) (T.durable trail.old)
+    requires { place ≡ T.first trail.old + length (T.found trail.old) }
+    ensures first { T.first trail.new ≡ T.first trail.old }
+    ensures ok { IfOk result (λ next. Follows A log.now (T.first trail.old) next (T.found trail.old) (T.durable trail.old)
         (T.found trail.new) (T.durable trail.new) (W.told writer.old).taken (W.told writer.new).taken) }
-    ensures err { IfErr result (λ fault. StopsFollowing A log.now fault (T.found trail.old) (T.durable trail.old)
+    ensures err { IfErr result (λ fault. StopsFollowing A log.now (T.first trail.old) fault (T.found trail.old) (T.durable trail.old)
         (T.found trail.new) (T.durable trail.new) (W.told writer.old).taken (W.told writer.new).taken) }
 {
     let more = match find_more(log.alloc, trail) {
@@ -170,19 +177,21 @@ pub enum FollowEnd {
 }
 
 /// Follows a store in which nothing was found yet, until that is not to go on, or cannot: it writes the frames of its
-/// records, each once they are durable.
+/// records, the first of which is at this place, each once they are durable.
 pub(crate) fn follow<T: StoreTrail<A>, W: Writer, P: Pause, A: Allocator + Copy>(
     trail: &mut T,
     log: &Logging<A>,
+    first: usize,
     writer: &mut W,
     pause: &mut P,
 ) -> FollowEnd
+    requires first { T.first trail.old ≡ first }
     requires found { T.found trail.old ≡ [] }
     requires durable { T.durable trail.old ≡ [] }
-    ensures { HasFollowed A log.now result (T.found trail.new) (T.durable trail.new)
+    ensures { HasFollowed A log.now first result (T.found trail.new) (T.durable trail.new)
         (W.told writer.old).taken (W.told writer.new).taken }
 {
-    let mut place = 0;
+    let mut place = first;
     let mut is_idle = false;
     'following: for _ in 0..u64::MAX {
         if !pause.goes_on(is_idle) {

@@ -1,5 +1,7 @@
 //! A store in its folder, or another file that grows, which is followed.
 
+ghost use Rattle.std.specs.Prelude.{◌≤◌};
+ghost use Rattle.hg_store.specs.Head.{IsHead};
 ghost use Rattle.hg_store_tools.specs.Trails.{IsFollowed};
 ghost use Rattle.hg_store_tools.specs.declared.follow.FollowEnd.{FollowEnd as AnyEnd};
 
@@ -8,7 +10,8 @@ use crate::fault::{ArchiveFault, Fault, NamedFile};
 use crate::folder::sending_fault;
 use crate::follow::{FollowEnd, Pause, follow};
 use crate::form::BundleForm;
-use crate::host::{fault_of, store_reader};
+use crate::host::{fault_of, placed_start, store_reader};
+use crate::marks::StoreStart;
 use crate::trail::{FileTrail, GrowingFile};
 use hg_connection::Writer;
 use libc::net::{POLLERR, POLLHUP, POLLNVAL, poll};
@@ -49,7 +52,31 @@ pub fn send_trail<F: GrowingFile + Drop, W: Writer, P: Pause, A: Allocator + Cop
         form,
     };
     let mut trail = trail;
-    follow(&mut trail, &log, writer, pause)
+    follow(&mut trail, &log, 0, writer, pause)
+}
+
+/// The same of a store from a mark on. No record before that is read.
+pub fn send_trail_on<F: GrowingFile + Drop, W: Writer, P: Pause, A: Allocator + Copy>(
+    alloc: A,
+    start: &StoreStart,
+    file: F,
+    from: usize,
+    form: BundleForm,
+    writer: &mut W,
+    pause: &mut P,
+) -> FollowEnd
+    requires head { IsHead start.now.head }
+    requires mark { start.now.mark.place ≤ from }
+    ensures { IsFollowed form A from result (W.told writer.old).taken (W.told writer.new).taken }
+{
+    let log = Logging {
+        alloc,
+        limits: start.head.limits,
+        from,
+        form,
+    };
+    let mut trail = FileTrail::on(alloc, file, start);
+    follow(&mut trail, &log, start.mark.place, writer, pause)
 }
 
 impl<A: Allocator> GrowingFile for BufReader<File, A> {
@@ -131,7 +158,7 @@ fn is_reader_gone(output: i32, wait: i32) -> bool {
 }
 
 /// Follows the store in a folder, as [`send_trail`] does, also while another process holds it. It is looked at five
-/// times a second. Nothing is changed, and nothing is held or made. The descriptor is that of the writer: it ends once
+/// times a second. Nothing is changed but its index, and nothing is held. The descriptor is that of the writer: it ends once
 /// nobody reads there.
 pub fn follow_store<'a, R: Files<File = File>, A: Allocator + Copy, W: Writer>(
     files: &R,
@@ -156,7 +183,14 @@ pub fn follow_store<'a, R: Files<File = File>, A: Allocator + Copy, W: Writer>(
             return Err(ArchiveFault { file: store, fault });
         }
     };
-    match send_trail(alloc, file, from, form, writer, &mut watch) {
+    let start = match placed_start(files, alloc, folder, file.get_ref(), from) {
+        Ok(start) => start,
+        Err(fault) => {
+            drop(file);
+            return Err(ArchiveFault { file: store, fault });
+        }
+    };
+    match send_trail_on(alloc, &start, file, from, form, writer, &mut watch) {
         FollowEnd::Left => Ok(watch.stop),
         FollowEnd::Stopped(Fault::Unsent) if is_reader_gone(output, 0) => Ok(
             FollowStop::ReaderGone,

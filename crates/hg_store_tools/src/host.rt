@@ -1,14 +1,18 @@
-//! What a fault of the system is, and a shelf in a folder.
+//! What a fault of the system is, the index of a store in its folder, and a shelf in a folder.
 
-ghost use Rattle.std.specs.Prelude.{None};
+ghost use Rattle.std.specs.Prelude.{◌≤◌, None, IfOk};
+ghost use Rattle.hg_store.specs.Head.{IsHead};
 
 use crate::bundles::{BundleSink, put_log};
-use crate::check::check_records;
+use crate::check::check_records_on;
 use crate::fault::Fault;
 use crate::form::BundleForm;
+use crate::marks::{EACH, FoundStart, StoreStart, find_start};
 use crate::rest::{StoreBytes, has_place, stop_of};
 use crate::upgrade::OldStore;
-use hg_store::{DeviceError, NoRecord, RecoverFault, StoreFault, store_file};
+use hg_store::{
+    Calls, DeviceError, NewFile, NoRecord, PlacedFile, RecoverFault, StoreFault, store_file,
+};
 use std::alloc::Allocator;
 use std::fs::{File, Files};
 use std::io::{BufReader, ErrorKind, Read, Seek, SeekFrom, Write};
@@ -53,18 +57,125 @@ pub fn store_reader<R: Files<File = File>, A: Allocator + Copy>(
     }
 }
 
-/// A reader of the store in a folder, at its front, of which all records were read and found right.
-pub fn checked_reader<R: Files<File = File>, A: Allocator + Copy>(
+/// Where a log of the store in a folder that begins at that place begins to read, and a reader that is there. All records
+/// from there on were read and found right.
+pub fn checked_start<R: Files<File = File>, A: Allocator + Copy>(
     files: &R,
     alloc: A,
     folder: &str,
-) -> Result<BufReader<File, A>, Fault> {
+    from: usize,
+) -> Result<(StoreStart, BufReader<File, A>), Fault>
+    ensures head { IfOk result (λ found. IsHead found.0.head) }
+    ensures mark { IfOk result (λ found. found.0.mark.place ≤ from) }
+{
     let mut reader = store_reader(files, alloc, folder)?;
-    check_records(alloc, &mut reader)?;
-    match reader.seek(SeekFrom::Start(0)) {
-        Ok(_) => Ok(reader),
+    let start = placed_start(files, alloc, folder, reader.get_ref(), from)?;
+    seek_to(&mut reader, start.mark.offset)?;
+    check_records_on(alloc, &start, &mut reader)?;
+    seek_to(&mut reader, start.mark.offset)?;
+    Ok((start, reader))
+}
+
+/// Goes to a place of a file. What was read ahead is dropped.
+fn seek_to<A: Allocator>(reader: &mut BufReader<File, A>, place: usize) -> Result<(), Fault> {
+    match reader.seek(SeekFrom::Start(place as u64)) {
+        Ok(_) => Ok(()),
         Err(error) => Err(fault_of(error)),
     }
+}
+
+/// The name of the index of a store.
+const INDEX: &str = "pushes.index";
+
+/// Where a log of the store in a folder, whose file this is, begins to read, by its index. That is made anew where it has
+/// too few marks; where it cannot be, it is as it was.
+pub fn placed_start<R: Files<File = File>, A: Allocator + Copy>(
+    files: &R,
+    alloc: A,
+    folder: &str,
+    file: &File,
+    from: usize,
+) -> Result<StoreStart, Fault>
+    ensures head { IfOk result (λ start. IsHead start.head) }
+    ensures mark { IfOk result (λ start. start.mark.place ≤ from) }
+{
+    let index = if from < EACH {
+        Vec::new(alloc)
+    } else {
+        read_index_file(files, alloc, folder, file)
+    };
+    let found = find_start(alloc, &StoreReads::of(file, alloc), from, &index)?;
+    let FoundStart { start, index } = found;
+    if let Some(bytes) = index {
+        let _written = write_index_file(files, alloc, folder, &bytes);
+    }
+    Ok(start)
+}
+
+/// The bytes of the index of a store, or none where it cannot be read or has more than those of an index of that file.
+fn read_index_file<R: Files<File = File>, A: Allocator + Copy>(
+    files: &R,
+    alloc: A,
+    folder: &str,
+    store: &File,
+) -> Vec<u8, A> {
+    match index_in(files, alloc, folder, store) {
+        Ok(bytes) => bytes,
+        Err(_) => Vec::new(alloc),
+    }
+}
+
+/// The same; an `Err` says that the system refused it.
+fn index_in<R: Files<File = File>, A: Allocator + Copy>(
+    files: &R,
+    alloc: A,
+    folder: &str,
+    store: &File,
+) -> io::Result<Vec<u8, A>> {
+    let name = format!(in alloc; "{folder}/{INDEX}")?;
+    let mut bytes = Vec::new(alloc);
+    if !fs::symlink_metadata(files, name.as_str())?.is_file() {
+        return Ok(bytes);
+    }
+    let mut file = File::open(files, name.as_str())?;
+    let most = most_of_index(store.metadata()?.len());
+    if file.metadata()?.len() <= most {
+        file.take(most).read_to_end(&mut bytes)?;
+    }
+    Ok(bytes)
+}
+
+/// How many bytes the index of a store of so many bytes has at most.
+fn most_of_index(size: u64) -> u64 {
+    (size / (25 * EACH as u64))
+        .saturating_mul(36)
+        .saturating_add(64)
+}
+
+/// Writes the index of a store to a new file beside it, which then takes its place. What it says need not be on the disk.
+fn write_index_file<R: Files<File = File>, A: Allocator + Copy>(
+    files: &R,
+    alloc: A,
+    folder: &str,
+    bytes: &[u8],
+) -> io::Result<()> {
+    let name = format!(in alloc; "{folder}/{INDEX}")?;
+    let beside = format!(in alloc; "{folder}/{INDEX}.new")?;
+    let Some(made) = PlacedFile::make(files, folder, beside, name, true)? else {
+        return Ok(());
+    };
+    let mut made = made;
+    let written = put_new(&mut made, bytes);
+    if written.is_err() {
+        made.remove();
+    }
+    written
+}
+
+/// Writes a new file and gives it its name.
+fn put_new<N: NewFile>(file: &mut N, bytes: &[u8]) -> io::Result<()> {
+    file.write(0, bytes)?;
+    file.put_in_place()
 }
 
 /// The file of a store, which is read from any place on.

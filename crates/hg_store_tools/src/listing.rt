@@ -1,17 +1,19 @@
 //! The pushes of a store, a line for each.
 
-ghost use Rattle.std.specs.Prelude.{◌≡◌, ◌++◌, ℕ, List, IfErr, IfOk, OnOk, length, string_bytes};
+ghost use Rattle.std.specs.Prelude.{◌≡◌, ◌≤◌, ◌++◌, ℕ, List, IfErr, IfOk, OnOk, length, string_bytes};
 ghost use Rattle.hg_types.specs.Limits.{IsAllowed};
 ghost use Rattle.hg_repo.specs.Report.{escaped};
+ghost use Rattle.hg_store.specs.Head.{IsHead};
 ghost use Rattle.hg_store.specs.Pieces.{HasToGive};
 ghost use Rattle.hg_store_tools.specs.Canonical.{IsUncanonical};
-ghost use Rattle.hg_store_tools.specs.Listing.{IsLine, IsListed, IsUnlisted, IsWhen, line_text, who_text};
+ghost use Rattle.hg_store_tools.specs.Listing.{IsLine, IsListed, IsListedOn, IsUnlisted, IsWhen, line_text, who_text};
 
 use crate::brought::brought_by;
 use crate::date::{date_of, push_date};
 use crate::fault::{Fault, StoreEnd};
+use crate::marks::StoreStart;
 use crate::report::sent;
-use crate::visit::{RecordVisit, begin, visit_records};
+use crate::visit::{Beginning, RecordVisit, begin, visit_from, visit_records};
 use hg_connection::Writer;
 use hg_store::Entry;
 use hg_types::{Limits, NoMemory};
@@ -85,6 +87,32 @@ pub fn send_list<R: Read, W: Writer, A: Allocator + Copy>(
         from,
     };
     visit_records(alloc, &begun, reader, &listing, writer)
+}
+
+/// Writes a line for each push of a store that the reader gives from a mark on, as [`send_list`] does.
+pub fn send_list_on<R: Read, W: Writer, A: Allocator + Copy>(
+    alloc: A,
+    start: &StoreStart,
+    reader: &mut R,
+    from: usize,
+    writer: &mut W,
+) -> Result<StoreEnd, Fault>
+    requires head { IsHead start.now.head }
+    requires mark { start.now.mark.place ≤ from }
+    ensures { IfOk result (λ ending. (rest : List ℕ) × HasToGive (R.remaining reader.old) rest
+        × IsListedOn A start.now.head start.now.mark rest from ending (W.told writer.old).taken
+        (W.told writer.new).taken) }
+{
+    let listing = Listing {
+        alloc,
+        limits: start.head.limits,
+        from,
+    };
+    let begun = Beginning {
+        head: start.head,
+        digest: start.mark.digest,
+    };
+    visit_from(alloc, &begun, start.mark.place, reader, &listing, writer)
 }
 
 /// The line of the push at a place. An `Err` says that its bundle is none within the limits, or that memory was

@@ -1,12 +1,13 @@
 //! The file of a store that is followed.
 
-ghost use Rattle.std.specs.Prelude.{◌≡◌, [], ℕ, None, IfErr, IfOk, OnErr, length};
+ghost use Rattle.std.specs.Prelude.{◌≡◌, ◌+◌, [], ℕ, None, IfErr, IfOk, OnErr, length};
 ghost use Rattle.hg_store.specs.Head.{IsHead};
 ghost use Rattle.hg_store_tools.specs.Trails.{EndsSync, EndsTrail, with_next};
 ghost use Rattle.hg_store_tools.specs.TrailNotes.{durable_in, found_in};
 
 use crate::fault::Fault;
 use crate::follow::StoreTrail;
+use crate::marks::{StoreStart, record_size};
 use crate::notes::{TrailNotes, TrailStep};
 use crate::visit::{Beginning, begin};
 use hg_store::{DeviceError, Entry, NoRecord, RecordStop, Version, read_record};
@@ -35,20 +36,23 @@ pub struct FileTrail<F: GrowingFile + Drop, A: Allocator> {
     version: Version,
     /// That of the record that was found last, or of the head.
     digest: [u8; 20],
-    /// How many records were found.
+    /// The place of the first record that is looked for.
+    first: usize,
+    /// That of the next one.
     place: usize,
     /// Where the gate of the next one stands.
     gate: u64,
     /// Whether the file was read on from somewhere else than that gate.
     is_astray: bool,
     notes: TrailNotes,
-    ghost counted: { place ≡ length (found_in notes.steps) },
+    ghost counted: { place ≡ first + length (found_in notes.steps) },
 }
 
 impl<F: GrowingFile + Drop, A: Allocator + Copy> FileTrail<F, A> {
     /// The store of a file, which is at its front, and what it begins with.
     pub(crate) fn open(alloc: A, file: F) -> Result<(Self, Beginning), Fault>
         ensures steps { IfOk result (λ opened. opened.0.notes.steps ≡ []) }
+        ensures first { IfOk result (λ opened. opened.0.first ≡ 0) }
         ensures head { IfOk result (λ opened. IsHead opened.1.head) }
     {
         let mut file = file;
@@ -65,18 +69,39 @@ impl<F: GrowingFile + Drop, A: Allocator + Copy> FileTrail<F, A> {
             file,
             version,
             digest: begun.digest,
+            first: 0,
             place: 0,
-            gate: head_size(version),
+            gate: begun.head.size() as u64,
             is_astray: true,
             notes: TrailNotes::new(),
         };
         Ok((trail, begun))
     }
 
+    /// The store of a file, from a mark on.
+    pub(crate) fn on(alloc: A, file: F, start: &StoreStart) -> Self
+        ensures steps { result.notes.steps ≡ [] }
+        ensures first { result.first ≡ start.now.mark.place }
+    {
+        let mark = &start.mark;
+        FileTrail {
+            alloc,
+            file,
+            version: start.head.version(),
+            digest: mark.digest,
+            first: mark.place,
+            place: mark.place,
+            gate: mark.offset as u64,
+            is_astray: true,
+            notes: TrailNotes::new(),
+        }
+    }
+
     /// Whether a record stands at the gate, or damage. The gate is looked at alone, and what stands behind it is read
     /// after that: so it is whole where the gate is open.
     fn is_open(&mut self) -> io::Result<bool>
-        ensures { self.new.notes.steps ≡ self.old.notes.steps }
+        ensures steps { self.new.notes.steps ≡ self.old.notes.steps }
+        ensures first { self.new.first ≡ self.old.first }
     {
         match self.file.byte_at(self.gate)? {
             None | Some(0) => Ok(false),
@@ -89,7 +114,8 @@ impl<F: GrowingFile + Drop, A: Allocator + Copy> FileTrail<F, A> {
 
     /// Reads the next record.
     fn read_next(&mut self) -> Result<Entry<A>, RecordStop>
-        ensures { self.new.notes.steps ≡ self.old.notes.steps }
+        ensures steps { self.new.notes.steps ≡ self.old.notes.steps }
+        ensures first { self.new.first ≡ self.old.first }
     {
         self.is_astray = true;
         let buffer = Vec::new(self.alloc);
@@ -102,16 +128,21 @@ impl<F: GrowingFile + Drop, A: Allocator + Copy> FileTrail<F, A> {
         )
     }
 
+    /// Where the gate stands behind a record that is read at this one.
+    fn gate_behind(&self, entry: &Entry<A>) -> Option<u64> {
+        let size = record_size(self.version, entry)?;
+        self.gate.checked_add(size as u64)
+    }
+
     /// Notes a record that was read, and goes on behind it.
     fn pass(&mut self, entry: Entry<A>) -> Result<Option<Entry<A>>, Fault>
         ensures found { IfOk result (λ next. found_in self.new.notes.steps ≡ with_next (found_in self.old.notes.steps) next) }
         ensures none { OnErr result (self.new.notes.steps ≡ self.old.notes.steps) }
         ensures durable { durable_in self.new.notes.steps ≡ durable_in self.old.notes.steps }
+        ensures first { self.new.first ≡ self.old.first }
         ensures why { IfErr result (λ fault. fault ≡ Fault.Failed) }
     {
-        let size = record_size(self.version, &entry);
-        let (Some(gate), Some(place)) = (self.gate.checked_add(size), self.place.checked_add(1))
-        else {
+        let (Some(gate), Some(place)) = (self.gate_behind(&entry), self.place.checked_add(1)) else {
             drop(entry);
             return Err(Fault::Failed);
         };
@@ -123,25 +154,6 @@ impl<F: GrowingFile + Drop, A: Allocator + Copy> FileTrail<F, A> {
         self.is_astray = false;
         Ok(Some(entry))
     }
-}
-
-/// How many bytes a head has.
-fn head_size(version: Version) -> u64 {
-    match version {
-        Version::First => 38,
-        Version::Second => 54,
-    }
-}
-
-/// How many bytes a record has.
-fn record_size<A: Allocator>(version: Version, entry: &Entry<A>) -> u64 {
-    let beside: u64 = match version {
-        Version::First => 25,
-        Version::Second => 34,
-    };
-    let name = entry.stamp().name().len() as u64;
-    let bundle = entry.bundle().len() as u64;
-    beside.saturating_add(name).saturating_add(bundle)
 }
 
 /// Why no record is found after so many. That none stands there yet is no fault.
@@ -173,6 +185,8 @@ impl<F: GrowingFile + Drop, A: Allocator + Copy> StoreTrail<A> for FileTrail<F, 
     ghost found = { λ t. found_in t.notes.steps };
 
     ghost durable = { λ t. durable_in t.notes.steps };
+
+    ghost first = { λ t. t.first };
 
     fn find(&mut self) -> Result<Option<Entry<A>>, Fault> {
         if !self.is_astray {

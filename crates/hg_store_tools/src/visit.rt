@@ -6,7 +6,8 @@ ghost use Rattle.hg_store.specs.Head.{version_of};
 ghost use Rattle.hg_store.specs.Records.{IsRecord};
 ghost use Rattle.hg_store.specs.declared.pieces.RecordStop.{RecordStop as AnyRecordStop};
 ghost use Rattle.hg_store_tools.specs.declared.fault.Fault.{Fault as AnyFault};
-ghost use Rattle.hg_store_tools.specs.Visiting.{Begins, EndsAs, FailsAs, Visits, StopsVisiting, has_no_begin};
+ghost use Rattle.hg_store_tools.specs.Visiting.{Begins, EndsAs, FailsAs, StopsVisiting, StopsVisitingFrom, Visits};
+ghost use Rattle.hg_store_tools.specs.Visiting.{VisitsFrom, has_no_begin};
 
 use crate::fault::{Fault, StoreEnd};
 use hg_store::{
@@ -72,10 +73,28 @@ pub(crate) fn visit_records<R: Read, T, V: RecordVisit<T, A>, A: Allocator + Cop
     ensures err { IfErr result (λ fault. StopsVisiting (V.visits visit.now) (V.fails visit.now) begun.now.head
         begun.now.digest (R.remaining reader.old) (R.remaining reader.new) fault target.old target.new) }
 {
+    visit_from(alloc, begun, 0, reader, visit, target)
+}
+
+/// The same of the records from a place on, where the digest is that of the record before it.
+pub(crate) fn visit_from<R: Read, T, V: RecordVisit<T, A>, A: Allocator + Copy>(
+    alloc: A,
+    begun: &Beginning,
+    first: usize,
+    reader: &mut R,
+    visit: &V,
+    target: &mut T,
+) -> Result<StoreEnd, Fault>
+    requires { (entry : AnyEntry) → IsRecord (version_of begun.now.head) entry → V.takes visit.now entry }
+    ensures ok { IfOk result (λ ending. VisitsFrom (V.visits visit.now) begun.now.head first begun.now.digest
+        (R.remaining reader.old) (R.remaining reader.new) ending target.old target.new) }
+    ensures err { IfErr result (λ fault. StopsVisitingFrom (V.visits visit.now) (V.fails visit.now) begun.now.head first
+        begun.now.digest (R.remaining reader.old) (R.remaining reader.new) fault target.old target.new) }
+{
     let version = begun.head.version();
     let mut digest = begun.digest;
     let mut buffer = Vec::new(alloc);
-    for place in 0..usize::MAX {
+    for place in first..usize::MAX {
         match read_record(alloc, version, &mut digest, reader, buffer) {
             Ok(entry) => {
                 match visit.visit(place, &entry, target) {

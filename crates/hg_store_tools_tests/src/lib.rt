@@ -43,6 +43,10 @@
 //! - the lines of a store of `C` by `ann lee`, `E` without a stamp and `M1` after the year 9999 by `-`, from each
 //!   place; what ends them; each growth refused. Result: a line for each from there on; those before it; out of
 //!   memory.
+//! - the mark at which a log begins, in stores of up to 3,000 records `E`, from places around 1,024, 2,048 and the end:
+//!   without an index, with one that is whole or too short, of which a byte was turned or a part is gone, of another
+//!   store, with a wrong offset, digest or place, a store damaged before it and at it; each growth refused. Result: the
+//!   mark before the place, and the index anew where it did not fit; the lines are those without one; out of memory.
 //! - the changesets of `E`, `M1`, `X`, `C`, and of `C` whose changegroup cannot be read. Result: 0, but 1 of `C`.
 //! - dates around leap days, and at the ends of 1970 and of 9999. Result: the calendar's; after it none.
 #![tactic(auto)]
@@ -57,6 +61,8 @@ mod follow_tests;
 mod listing_tests;
 #[cfg(test)]
 mod made;
+#[cfg(test)]
+mod marks_tests;
 #[cfg(test)]
 mod paper;
 #[cfg(test)]

@@ -10,3 +10,5 @@ mod Settings
 mod Fronts
 mod Seen
 mod Had
+mod Timeline
+mod Rows

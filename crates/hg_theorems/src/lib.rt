@@ -8,9 +8,12 @@
 //!
 //! A function does nothing: its contract is a law of the definitions that the contracts below cite. No code stands on
 //! this crate. Nothing here starts a thread or waits.
+//!
+//! Servers one after the other over one store: what the later ones have, and what a beat says of the earlier ones.
 #![tactic(auto)]
 
 pub mod canonical;
+pub mod holders;
 pub mod recovery;
 mod values;
 

@@ -75,7 +75,7 @@ come_later before after is = record {
 }
 
 -- whoever looked has seen what it had seen, or more
-pub looked_later : {A : Type 0} (first : RepositoryOf A) (kept : KeptSeen A → ℕ → Type 0)
+pub looked_later : {A : Type 0} (first : RepositoryOf A) (kept : ReceiptView → KeptSeen A → ℕ → Type 0)
     (before after : KeptSeen A) (Answers : Repository A → Type 0) → LooksKept first kept before after Answers →
     IsLater before after
 looked_later first kept before after Answers look = record {
@@ -88,7 +88,7 @@ pub went : {T E : Type 0} (P : T → Type 0) (Q : E → Type 0) (r : Result T E)
 went P Q r t is told = let there : MatchResult (Ok t) P Q = subst (λ x. MatchResult x P Q) is told in there
 
 -- who looked may have seen more, and there was no memory for the answer
-looked_in_vain : {A : Type 0} (first : RepositoryOf A) (kept : KeptSeen A → ℕ → Type 0) (before : KeptSeen A)
+looked_in_vain : {A : Type 0} (first : RepositoryOf A) (kept : ReceiptView → KeptSeen A → ℕ → Type 0) (before : KeptSeen A)
     (answer : HttpAnswer A) (after : KeptSeen A) (Answers : Repository A → Type 0) →
     LooksKept first kept before after Answers → answer ≡ Refused NoMemory → LacksMemory true before answer after
 looked_in_vain first kept before answer after Answers look is = record {
@@ -98,7 +98,7 @@ looked_in_vain first kept before answer after Answers look is = record {
 }
 
 -- who looked is answered the text that it found, or there was no memory for it
-pub text_or_lacks : {A E : Type 0} (first : RepositoryOf A) (kept : KeptSeen A → ℕ → Type 0) (before : KeptSeen A)
+pub text_or_lacks : {A E : Type 0} (first : RepositoryOf A) (kept : ReceiptView → KeptSeen A → ℕ → Type 0) (before : KeptSeen A)
     (answer : HttpAnswer A) (after : KeptSeen A) (Finds : Repository A → Result (List ℕ) E → Type 0)
     (text : Result (List ℕ) E) → LooksKept first kept before after (λ repo. Finds repo text)
     → MatchResult text (λ t. answer ≡ Text t) (λ _. answer ≡ Refused NoMemory)
@@ -108,7 +108,7 @@ text_or_lacks first kept before answer after Finds (Ok t) look is =
 text_or_lacks first kept before answer after Finds (Err e) look is =
     inr (looked_in_vain first kept before answer after _ look is)
 
-module _ {A E : Type 0} (first : RepositoryOf A) (kept : KeptSeen A → ℕ → Type 0) (before : KeptSeen A)
+module _ {A E : Type 0} (first : RepositoryOf A) (kept : ReceiptView → KeptSeen A → ℕ → Type 0) (before : KeptSeen A)
     (answer : HttpAnswer A) (after : KeptSeen A) (IsText : Repository A → List ℕ → Type 0)
   where
     -- who looked is shown the view that it found, or there was no memory for it
@@ -128,7 +128,7 @@ module _ {A E : Type 0} (first : RepositoryOf A) (kept : KeptSeen A → ℕ → 
     shown_or_lacks view stored rests (Err e) look even is =
         inr (looked_in_vain first kept before answer after _ look is)
 
-module _ {A : Type 0} (capacity : ℕ) (first : RepositoryOf A) (kept : KeptSeen A → ℕ → Type 0)
+module _ {A : Type 0} (capacity : ℕ) (first : RepositoryOf A) (kept : ReceiptView → KeptSeen A → ℕ → Type 0)
     (asks : List ℕ → Verdict A → Type 0) (before : KeptSeen A) (answer : HttpAnswer A) (after : KeptSeen A)
   where
     said_later : (said : HttpAnswer A) → IsSaid said before answer after → IsLater before after

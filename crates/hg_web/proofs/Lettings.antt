@@ -4,6 +4,7 @@ use Rattle.std.specs.Prelude.{Result, Ok, Err}
 use Rattle.hg_store.specs.Entries.{Stamp}
 use Rattle.hg_push.specs.Run.{RepositoryOf}
 use Rattle.hg_commit.specs.Clients.{KeptSeen}
+use Rattle.hg_commit.specs.Orders.{ReceiptView}
 use Rattle.hg_http.specs.declared.hook.policy.Verdict.{Verdict}
 use Rattle.hg_http.specs.declared.answer.HttpAnswer.{HttpAnswer}
 use Rattle.hg_web.specs.Answering.{OrLacks}
@@ -42,7 +43,7 @@ or_lacks looks Says before (Ok answer) after is = inl is
 or_lacks looks Says before (Err fault) after is = is
 
 -- a push that was answered is one at some time, by the one whose name its stamp has
-pub timed : {A E : Type 0} (capacity : ℕ) (first : RepositoryOf A) (kept : KeptSeen A → ℕ → Type 0) (stamp : Stamp)
+pub timed : {A E : Type 0} (capacity : ℕ) (first : RepositoryOf A) (kept : ReceiptView → KeptSeen A → ℕ → Type 0) (stamp : Stamp)
     (bundle : List ℕ) (reply : How A → List ℕ) (before : KeptSeen A) (result : Result (HttpAnswer A) E)
     (after : KeptSeen A) → Answered (IsPushAnswered capacity first kept stamp bundle reply) before result after →
     Answered (λ b a n. (time : ℕ) × IsPushAnswered capacity first kept

@@ -1,7 +1,7 @@
 -- What one bundle over a body says of its push.
 use Rattle.std.proofs.Common.{◌≡◌, ◌≢◌, ℕ, List, [], ◌∷◌, ◌++◌, Option, Some, None}
 use Rattle.std.proofs.Common.{sym, ap, subst, ◌∙◌, append-nil, append_assoc, map, drop}
-use Rattle.std.specs.Prelude.{⊤, IfSome, Result, Ok, Err}
+use Rattle.std.specs.Prelude.{⊤, Bool, IfSome, Result, Ok, Err}
 use Rattle.hg_types.specs.declared.item.Taken.{Taken}
 use Rattle.hg_types.specs.declared.limits.Limits.{Limits}
 use Rattle.hg_push.specs.Reply.{reply_of}
@@ -16,7 +16,8 @@ use Rattle.hg_connection.specs.declared.bundle_end.BundleEnd.TheVariants.{InputE
 use Rattle.hg_connection.specs.Receiving.{IsReceived, last_read, mark_of, push_items, Ran, StopsBundle}
 use Rattle.hg_store.specs.Entries.{Entry, Stamp}
 use Rattle.hg_store.specs.declared.head.Head.{Head}
-use Rattle.hg_commit.specs.Clients.{HasCome, IsCovered, IsLater, KeptSeen, KeptView}
+use Rattle.hg_commit.specs.Clients.{HasCome, IsKept, IsLater, KeptSeen, KeptView}
+use Rattle.hg_commit.specs.Orders.{ReceiptView}
 use Rattle.hg_durable.specs.Kept.{IsKeptOrNot, IsReplied, KeepsBundle, KeptExchange, OpenedView, RepliesBy}
 use Rattle.hg_durable.specs.declared.served.Replied.{Replied}
 use Rattle.hg_durable.specs.declared.served.Replied.TheVariants.{Sent}
@@ -76,14 +77,14 @@ module _ {A D E : Type 0} (seen : D → List ℕ) (may_leave : D → List ℕ �
 module _ {A D : Type 0} (seen : D → List ℕ) (may_leave : D → List ℕ → Type 0) (moment : D → ℕ) (head : Head)
     (stored : List Entry) (limits : Limits) (capacity : ℕ) (first : RepositoryOf A)
     (before after : KeptSeen A) (body waiting : List ℕ) (left : BodyView) (opened : OpenedView A)
-    (stamp : Stamp) (x : KeptExchange A)
+    (stamp : Stamp) (x : KeptExchange A) (beats : Bool)
     (v : KeepsBundle limits capacity first [] waiting (input_of (record { bytes = body; at = 0; reads = [] }))
     (input_of left) opened stamp x)
     (come : HasCome before opened.client)
     (same : limits ≡ first.settings.limits)
   where
-    abbrev kept : KeptSeen A → ℕ → Type 0
-    kept h count = IsCovered seen may_leave moment head stored first h count
+    abbrev kept : ReceiptView → KeptSeen A → ℕ → Type 0
+    kept asked client count = IsKept seen may_leave moment head stored first beats asked client count
 
     abbrev rest : List ℕ
     rest = drop left.at left.bytes
@@ -103,7 +104,7 @@ module _ {A D : Type 0} (seen : D → List ℕ) (may_leave : D → List ℕ → 
         subst (λ (h : List (Taken A)). Answers capacity first x.push put h x.how x.takes x.after.history) come.0
         v.is.answers
 
-    is_push : kept x.after x.rests → IsPush capacity first kept stamp before body x
+    is_push : kept opened.client.receipt x.after x.rests → IsPush capacity first kept stamp before body x
     is_push are_kept = record {
       asked = opened.client.receipt;
       promised = come.1.0;
@@ -131,7 +132,7 @@ module _ {A D : Type 0} (seen : D → List ℕ) (may_leave : D → List ℕ → 
     }
 
     pub pushed : {E F : Type 0} (how : How A) → x.how ≡ how → (it : Result (KeptView A) (KeptSeen A × E))
-        → IsKeptOrNot seen may_leave moment head stored first x.after x.rests x.handed it
+        → IsKeptOrNot seen may_leave moment head stored first beats opened.client.receipt x.after x.rests x.handed it
         → (told : Result (Option (KeptPush A)) F) → IsOfRound it how told after
         → PushesOrFails capacity first kept stamp before body told after
     pushed how is (Ok all) k (Ok (Some told)) t = (

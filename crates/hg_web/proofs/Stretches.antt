@@ -17,13 +17,14 @@ use Rattle.http_server.proofs.StreamLemmas.{Chain-append}
 use Rattle.hg_http.specs.declared.follow.Follower.{Follower}
 use Rattle.hg_http.specs.Following.{AreRequests, FollowsAt, KeepsUp, limits_of}
 use Rattle.hg_commit.specs.Clients.{KeptSeen}
+use Rattle.hg_commit.specs.Orders.{ReceiptView}
 use Rattle.hg_parts.specs.Repository.{Repository}
 use Rattle.hg_push.specs.Run.{RepositoryOf}
 use Rattle.hg_web.specs.Answering.{Responds, WireView}
 use Rattle.hg_web.specs.code.Following.{Brings, EndsStretch, GoesOn, HasSent, IsWithin, Waits, Went}
 use Rattle.hg_web.specs.declared.serve.Stretch.{Stretch}
 
-module _ {A S : Type 0} (capacity : ℕ) (first : RepositoryOf A) (kept : KeptSeen A → ℕ → Type 0)
+module _ {A S : Type 0} (capacity : ℕ) (first : RepositoryOf A) (kept : Bool → ReceiptView → KeptSeen A → ℕ → Type 0)
     (page metrics : S → Repository A → List ℕ → Type 0)
   where
     abbrev Says : WireView A S → Asked (List ℕ) → Response → WireView A S → Type 0

@@ -7,6 +7,7 @@ use Rattle.http_server.specs.declared.response.Response.{Response}
 use Rattle.hg_parts.specs.Repository.{Repository}
 use Rattle.hg_push.specs.Run.{RepositoryOf}
 use Rattle.hg_commit.specs.Clients.{IsLater, KeptSeen}
+use Rattle.hg_commit.specs.Orders.{ReceiptView}
 use Rattle.hg_http.specs.Policies.{Asked, AsksOnce, HasAsked}
 use Rattle.hg_http.specs.declared.answer.HttpAnswer.{HttpAnswer}
 use Rattle.hg_http.specs.Responses.{CarriesAnswer}
@@ -38,25 +39,25 @@ told_all place told client asked noted failed is same even =
       λ _. (seen, even),
     )
 
-module _ {A S : Type 0} (capacity : ℕ) (first : RepositoryOf A) (kept : KeptSeen A → ℕ → Type 0)
+module _ {A S : Type 0} (capacity : ℕ) (first : RepositoryOf A) (kept : Bool → ReceiptView → KeptSeen A → ℕ → Type 0)
     (page metrics : S → Repository A → List ℕ → Type 0)
   where
     -- the answer to a request tells on from what was told last
     pub responds : (old new : WireView A S) (request : Request (List ℕ)) (response : Response)
-        (answer : HttpAnswer A) (terms : WebTerms S) (told client after seen : KeptSeen A)
+        (answer : HttpAnswer A) (terms : WebTerms S) (beats : Bool) (told client after seen : KeptSeen A)
         (asked given said ended : Asked A) (before now : ℕ) →
-        record { seen = told; asked = asked; terms = terms; answered = before } ≡ old →
-        new ≡ record { seen = seen; asked = said; terms = terms; answered = now } → now ≡ before + 1 →
+        record { seen = told; asked = asked; terms = terms; beats = beats; answered = before } ≡ old →
+        new ≡ record { seen = seen; asked = said; terms = terms; beats = beats; answered = now } → now ≡ before + 1 →
         client ≡ told → seen ≡ after → given ≡ asked → ended ≡ said →
-        AnswersRequest capacity first (around_of kept page metrics terms) (HasAsked given ended) request client answer
+        AnswersRequest capacity first (around_of (kept beats) page metrics terms) (HasAsked given ended) request client answer
         after → AsksOnce given ended → CarriesAnswer answer response →
         Responds capacity first kept page metrics old request response new
-    responds old new request response answer terms told client after seen asked given said ended before now was is one
+    responds old new request response answer terms beats told client after seen asked given said ended before now was is one
         same last knew notes answers asks tells =
-        let around = around_of kept page metrics terms in
+        let around = around_of (kept beats) page metrics terms in
         subst (λ (o : WireView A S). Responds capacity first kept page metrics o request response new) was
         (subst (λ (n : WireView A S). Responds capacity first kept page metrics
-        (record { seen = told; asked = asked; terms = terms; answered = before }) request response n) (sym is) (record {
+        (record { seen = told; asked = asked; terms = terms; beats = beats; answered = before }) request response n) (sym is) (record {
           answer = answer;
           answers = subst (λ a. AnswersRequest capacity first around (HasAsked a said) request told answer seen) knew
               (subst (λ s. AnswersRequest capacity first around (HasAsked given s) request told answer seen) notes
@@ -67,6 +68,6 @@ module _ {A S : Type 0} (capacity : ℕ) (first : RepositoryOf A) (kept : KeptSe
           later = subst (λ c. IsLater c seen) same (subst (λ s. IsLater client s) (sym last)
               (answered_later capacity first around (HasAsked given ended) client answer after request answers));
           tells = tells;
-          same = refl;
+          same = (refl, refl);
           counts = one;
         }))

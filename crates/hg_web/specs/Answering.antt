@@ -9,6 +9,7 @@ use Rattle.hg_parts.specs.Repository.{Repository}
 use Rattle.hg_push.specs.Reply.{reply_of}
 use Rattle.hg_push.specs.Run.{RepositoryOf}
 use Rattle.hg_commit.specs.Clients.{IsLater, KeptSeen}
+use Rattle.hg_commit.specs.Orders.{ReceiptView}
 use Rattle.hg_commit.specs.Records.{done_in}
 use Rattle.hg_web.specs.Looking.{LooksKept}
 use Rattle.hg_wireproto.specs.declared.batch.BatchCommand.{BatchCommand as Asked}
@@ -42,12 +43,13 @@ use Rattle.hg_web.specs.Pushes.{How, IsPushAnswered, key_line, set_line}
 use Rattle.hg_web.specs.declared.terms.WebTerms.{WebTerms}
 
 -- What answers say and rest on beside the repository: which text may be the page and which the counters, of a
--- repository; that by a history so many done pushes are on the device; how many pushes the store had when it was
+-- repository; that so many done pushes of what a client has seen are on the device, whose request came as it had that
+-- receipt; how many pushes the store had when it was
 -- opened; what the server answers to; which field says who pushes; where pulls go; and what is told behind the capabilities.
 pub record Around (A : Type 0) : Type 1 where
   pub page : Repository A → List ℕ → Type 0
   pub metrics : Repository A → List ℕ → Type 0
-  pub kept : KeptSeen A → ℕ → Type 0
+  pub kept : ReceiptView → KeptSeen A → ℕ → Type 0
   pub stored : ℕ
   pub address : Address
   pub believed : Option (List ℕ)
@@ -55,7 +57,7 @@ pub record Around (A : Type 0) : Type 1 where
   pub also : Option (List ℕ)
 
 -- what answers say beside the repository, on these terms
-abbrev pub around_of : {A S : Type 0} → (KeptSeen A → ℕ → Type 0) → (S → Repository A → List ℕ → Type 0) →
+abbrev pub around_of : {A S : Type 0} → (ReceiptView → KeptSeen A → ℕ → Type 0) → (S → Repository A → List ℕ → Type 0) →
     (S → Repository A → List ℕ → Type 0) → WebTerms S → Around A
 around_of kept page metrics terms = record {
   page = page terms.shown.now;
@@ -97,33 +99,33 @@ OrLacks looks Says before answer after = Says before answer after ⊎ LacksMemor
 
 -- The answer is a text that the repository gives so at one point of the serial order, and not before
 -- what the client was answered; all pushes that were done by then were on the device.
-pub record IsSaidAt {A : Type 0} (first : RepositoryOf A) (kept : KeptSeen A → ℕ → Type 0)
+pub record IsSaidAt {A : Type 0} (first : RepositoryOf A) (kept : ReceiptView → KeptSeen A → ℕ → Type 0)
     (says : List ℕ → HttpAnswer A) (IsText : Repository A → List ℕ → Type 0) (before : KeptSeen A)
     (answer : HttpAnswer A) (after : KeptSeen A) : Type 0 where
   pub text : List ℕ
   pub looks : LooksKept first kept before after (λ repo. IsText repo text)
   pub answer_is : answer ≡ says text
 
-abbrev pub IsTextAt : {A : Type 0} → RepositoryOf A → (KeptSeen A → ℕ → Type 0) →
+abbrev pub IsTextAt : {A : Type 0} → RepositoryOf A → (ReceiptView → KeptSeen A → ℕ → Type 0) →
     (Repository A → List ℕ → Type 0) → KeptSeen A → HttpAnswer A → KeptSeen A → Type 0
 IsTextAt first kept IsText before answer after = IsSaidAt first kept Text IsText before answer after
 
 -- a batch that is not refused is answered from one repository
-abbrev pub AnswersBatch : {A : Type 0} → RepositoryOf A → (KeptSeen A → ℕ → Type 0) → List (Asked A) →
+abbrev pub AnswersBatch : {A : Type 0} → RepositoryOf A → (ReceiptView → KeptSeen A → ℕ → Type 0) → List (Asked A) →
     Option RequestRefusal → KeptSeen A → HttpAnswer A → KeptSeen A → Type 0
 AnswersBatch first kept commands (Some why) before answer after = IsSaid (Refused why) before answer after
 AnswersBatch first kept commands None before answer after =
     IsTextAt first kept (λ repo text. IsBatchText repo commands text) before answer after
 
 -- a push of a bundle by that user, at some time, where it was let through, with such a text for its outcome
-abbrev pub AnswersPush : {A : Type 0} → ℕ → RepositoryOf A → (KeptSeen A → ℕ → Type 0) →
+abbrev pub AnswersPush : {A : Type 0} → ℕ → RepositoryOf A → (ReceiptView → KeptSeen A → ℕ → Type 0) →
     (List ℕ → Verdict A → Type 0) → List ℕ → List ℕ → (How A → List ℕ) → KeptSeen A → HttpAnswer A → KeptSeen A → Type 0
 AnswersPush capacity first kept asks user bundle reply before answer after =
     AnswersIfLet asks bundle (λ b a n. (time : ℕ) × IsPushAnswered capacity first kept
     (record { time = time; name = user }) bundle reply b a n) before answer after
 
 -- a push of the body, where its heads are forced: `force` in hexadecimal digits
-abbrev pub AnswersForced : {A : Type 0} → ℕ → RepositoryOf A → (KeptSeen A → ℕ → Type 0) →
+abbrev pub AnswersForced : {A : Type 0} → ℕ → RepositoryOf A → (ReceiptView → KeptSeen A → ℕ → Type 0) →
     (List ℕ → Verdict A → Type 0) → List ℕ → List ℕ → Bool → KeptSeen A → HttpAnswer A → KeptSeen A → Type 0
 AnswersForced capacity first kept asks user body false before answer after =
     IsSaid (Refused NotForced) before answer after
@@ -131,7 +133,7 @@ AnswersForced capacity first kept asks user body true before answer after =
     AnswersPush capacity first kept asks user body reply_of before answer after
 
 -- a push that sets the key
-abbrev pub AnswersFitting : {A : Type 0} → ℕ → RepositoryOf A → (KeptSeen A → ℕ → Type 0) →
+abbrev pub AnswersFitting : {A : Type 0} → ℕ → RepositoryOf A → (ReceiptView → KeptSeen A → ℕ → Type 0) →
     (List ℕ → Verdict A → Type 0) → List ℕ → List ℕ → List ℕ → List ℕ → List ℕ → KeptSeen A → HttpAnswer A → KeptSeen A →
     Type 0
 AnswersFitting {A} capacity first kept asks user namespace key old new before answer after =
@@ -139,7 +141,7 @@ AnswersFitting {A} capacity first kept asks user namespace key old new before an
     answer after
 
 -- the same where a part can hold the values; else it is not set
-abbrev pub AnswersKey : {A : Type 0} → ℕ → RepositoryOf A → (KeptSeen A → ℕ → Type 0) →
+abbrev pub AnswersKey : {A : Type 0} → ℕ → RepositoryOf A → (ReceiptView → KeptSeen A → ℕ → Type 0) →
     (List ℕ → Verdict A → Type 0) → List ℕ → List ℕ → List ℕ → List ℕ → List ℕ → Bool → KeptSeen A → HttpAnswer A →
     KeptSeen A → Type 0
 AnswersKey capacity first kept asks user namespace key old new false before answer after =
@@ -148,14 +150,14 @@ AnswersKey capacity first kept asks user namespace key old new true before answe
     AnswersFitting capacity first kept asks user namespace key old new before answer after
 
 -- a change of a key is answered by a push, where its values fit; else as not set
-abbrev pub AnswersChange : {A : Type 0} → ℕ → RepositoryOf A → (KeptSeen A → ℕ → Type 0) →
+abbrev pub AnswersChange : {A : Type 0} → ℕ → RepositoryOf A → (ReceiptView → KeptSeen A → ℕ → Type 0) →
     (List ℕ → Verdict A → Type 0) → List ℕ → List ℕ → List ℕ → List ℕ → List ℕ → KeptSeen A → HttpAnswer A → KeptSeen A →
     Type 0
 AnswersChange capacity first kept asks user namespace key old new before answer after =
     AnswersKey capacity first kept asks user namespace key old new (fits namespace key old new) before answer after
 
 -- the change that the arguments ask for
-abbrev pub AnswersPushKey : {A : Type 0} → ℕ → RepositoryOf A → (KeptSeen A → ℕ → Type 0) →
+abbrev pub AnswersPushKey : {A : Type 0} → ℕ → RepositoryOf A → (ReceiptView → KeptSeen A → ℕ → Type 0) →
     (List ℕ → Verdict A → Type 0) → List ℕ → List (Field A) → KeptSeen A → HttpAnswer A → KeptSeen A → Type 0
 AnswersPushKey capacity first kept asks user fields before answer after =
     AnswersChange capacity first kept asks user (argument_in fields (codes "namespace"))
@@ -183,7 +185,7 @@ abbrev pub user_named : Option (List ℕ) → Request (List ℕ) → List ℕ
 user_named believed r = take 255 (user_of believed r)
 
 -- the answer to a command with these arguments, and what its client has seen then
-abbrev pub AnswersCommand : {A : Type 0} → ℕ → RepositoryOf A → (KeptSeen A → ℕ → Type 0) →
+abbrev pub AnswersCommand : {A : Type 0} → ℕ → RepositoryOf A → (ReceiptView → KeptSeen A → ℕ → Type 0) →
     (List ℕ → Verdict A → Type 0) → Option (List ℕ) → Option (List ℕ) → Option (List ℕ) → Command → List (Field A) →
     Request (List ℕ) → KeptSeen A → HttpAnswer A → KeptSeen A → Type 0
 AnswersCommand capacity first kept asks believed pull also Capabilities fields r before answer after =
@@ -238,23 +240,24 @@ AnswersRequest {A} capacity first around asks r before answer after =
     command (arguments_of r) r) before answer after
 
 -- what contracts see of a connection's service: what its client had seen when the last request was answered, what its
--- policy had been asked by then, the terms, and how many requests were answered
+-- policy had been asked by then, the terms, whether its answers rest on beats, and how many requests were answered
 pub record WireView (A S : Type 0) : Type 0 where
   pub seen : KeptSeen A
   pub asked : AskedPolicy A
   pub terms : WebTerms S
+  pub beats : Bool
   pub answered : ℕ
 
 -- The response reports the answer. Its client has seen no less than before, and has all promises that it had. The
 -- policy was asked once at most: about the push that the request is.
 pub record Responds {A S : Type 0} (capacity : ℕ) (first : RepositoryOf A)
-    (kept : KeptSeen A → ℕ → Type 0) (page metrics : S → Repository A → List ℕ → Type 0)
+    (kept : Bool → ReceiptView → KeptSeen A → ℕ → Type 0) (page metrics : S → Repository A → List ℕ → Type 0)
     (old : WireView A S) (r : Request (List ℕ)) (response : Response) (new : WireView A S) : Type 0 where
   pub answer : HttpAnswer A
-  pub answers : AnswersRequest capacity first (around_of kept page metrics old.terms)
+  pub answers : AnswersRequest capacity first (around_of (kept old.beats) page metrics old.terms)
       (λ bundle verdict. HasAsked old.asked new.asked bundle verdict) r old.seen answer new.seen
   pub asks : AsksOnce old.asked new.asked
   pub later : IsLater old.seen new.seen
   pub tells : CarriesAnswer answer response
-  pub same : new.terms ≡ old.terms
+  pub same : (new.terms ≡ old.terms) × (new.beats ≡ old.beats)
   pub counts : new.answered ≡ old.answered + 1

@@ -38,10 +38,11 @@ Answered Says before (Err e) after = IsLater before after
 -- One bundle was pushed: its bytes begin the body, and end before it only after an end mark or a fault. No
 -- read of the body failed. The push goes on from what its client had seen, and ended so. The answer rests on so
 -- many done pushes, of which a done one is the last, with its bundle as its record, which was handed in with that stamp;
--- all of these were on the device, and the receipt of its client has a promise of them. It is one push: a request of its client came, the push
--- was opened for it, and no other request of this client came until it was answered.
+-- all of these were on the device, and the receipt of its client has a promise of them; with beats this rests on one that
+-- began behind the request. It is one push: a request of its client came, the push was opened for it, and no other request
+-- of this client came until it was answered.
 pub record IsPush {A : Type 0} (capacity : ℕ) (first : RepositoryOf A)
-    (kept : KeptSeen A → ℕ → Type 0) (stamp : Stamp) (before : KeptSeen A) (body : List ℕ) (x : KeptExchange A) :
+    (kept : ReceiptView → KeptSeen A → ℕ → Type 0) (stamp : Stamp) (before : KeptSeen A) (body : List ℕ) (x : KeptExchange A) :
     Type 0
   where
     pub asked : ReceiptView
@@ -56,7 +57,7 @@ pub record IsPush {A : Type 0} (capacity : ℕ) (first : RepositoryOf A)
     pub rests_on : RestsOn run_push first (newest_first x.after.history) x.push x.how x.rests
     pub recorded : AreRecorded first x.after.history x.rests x.handed
     pub handed : x.handed ≡ option_to_list (record_of x.how (record { stamp = stamp; bundle = x.consumed }))
-    pub is_kept : kept x.after x.rests
+    pub is_kept : kept asked x.after x.rests
     pub read : x.ending ≢ ReadFailed
     pub behind : List ℕ
     pub body_is : body ≡ x.consumed ++ behind
@@ -67,7 +68,7 @@ abbrev pub IsNotOpened : {A : Type 0} → KeptSeen A → KeptSeen A → Type 0
 IsNotOpened before after = (after ≡ before) ⊎ HasCome before after
 
 -- No push was opened; or one was, and ended so. Its reply was made, if there was memory for it.
-abbrev pub Pushes : {A : Type 0} → ℕ → RepositoryOf A → (KeptSeen A → ℕ → Type 0) → Stamp → KeptSeen A →
+abbrev pub Pushes : {A : Type 0} → ℕ → RepositoryOf A → (ReceiptView → KeptSeen A → ℕ → Type 0) → Stamp → KeptSeen A →
     List ℕ → Option (KeptPush A) → KeptSeen A → Type 0
 Pushes capacity first kept stamp before body None after = IsNotOpened before after
 Pushes {A} capacity first kept stamp before body (Some push) after =
@@ -75,7 +76,7 @@ Pushes {A} capacity first kept stamp before body (Some push) after =
     × (x.after ≡ after) × IfSome push.reply (λ reply. reply ≡ reply_of push.outcome)
 
 -- the same; where the store failed, nothing is answered
-abbrev pub PushesOrFails : {A E : Type 0} → ℕ → RepositoryOf A → (KeptSeen A → ℕ → Type 0) → Stamp → KeptSeen A →
+abbrev pub PushesOrFails : {A E : Type 0} → ℕ → RepositoryOf A → (ReceiptView → KeptSeen A → ℕ → Type 0) → Stamp → KeptSeen A →
     List ℕ → Result (Option (KeptPush A)) E → KeptSeen A → Type 0
 PushesOrFails capacity first kept stamp before body (Ok pushed) after =
     Pushes capacity first kept stamp before body pushed after
@@ -92,7 +93,7 @@ IsReply reply (Some push) answer = IsReplyTo reply push.outcome answer
 
 -- A push of that bundle, with that stamp, was answered: it was not opened; or it was, and the answer reports how it ended.
 pub record IsPushAnswered {A : Type 0} (capacity : ℕ) (first : RepositoryOf A)
-    (kept : KeptSeen A → ℕ → Type 0) (stamp : Stamp) (body : List ℕ) (reply : How A → List ℕ) (before : KeptSeen A)
+    (kept : ReceiptView → KeptSeen A → ℕ → Type 0) (stamp : Stamp) (body : List ℕ) (reply : How A → List ℕ) (before : KeptSeen A)
     (answer : HttpAnswer A) (after : KeptSeen A) : Type 0 where
   pub ended : Option (KeptPush A)
   pub pushes : Pushes capacity first kept stamp before body ended after

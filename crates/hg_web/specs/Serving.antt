@@ -17,6 +17,7 @@ use Rattle.hg_push.specs.declared.outcome.Reason.TheVariants.{Cut, NoMemory}
 use Rattle.hg_push.specs.Reply.{reply_of}
 use Rattle.hg_push.specs.Run.{RepositoryOf}
 use Rattle.hg_commit.specs.Clients.{IsLater, KeptSeen}
+use Rattle.hg_commit.specs.Orders.{ReceiptView}
 use Rattle.hg_http.specs.Policies.{Asked as AskedPolicy}
 use Rattle.hg_web.specs.declared.serve.ConnectionEnd.{ConnectionEnd}
 use Rattle.hg_web.specs.declared.serve.ConnectionEnd.TheVariants.{Done, NotStored}
@@ -116,8 +117,8 @@ pub record Converses {V : Type 0} (breaks : Type 0) (config : Config)
 -- spoke of; it may have seen more only where the connection ended since the store failed. Each push that ran was let
 -- through by the policy, which was asked about it and nothing else.
 pub record ServesHttp {A S : Type 0} (capacity : ℕ) (first : RepositoryOf A)
-    (kept : KeptSeen A → ℕ → Type 0) (page metrics : S → Repository A → List ℕ → Type 0)
-    (terms : WebTerms S) (asked said : AskedPolicy A) (before : KeptSeen A)
+    (kept : Bool → ReceiptView → KeptSeen A → ℕ → Type 0) (page metrics : S → Repository A → List ℕ → Type 0)
+    (terms : WebTerms S) (beats : Bool) (asked said : AskedPolicy A) (before : KeptSeen A)
     (input left out sent : Option (List ℕ)) (end : ConnectionEnd) (after : KeptSeen A) : Type 0 where
   pub config : Config
   pub room : config.max_body_len ≡ first.settings.limits.stream
@@ -126,7 +127,7 @@ pub record ServesHttp {A S : Type 0} (capacity : ℕ) (first : RepositoryOf A)
   pub last : WireView A S
   pub converses : Converses (end ≢ Done) config
       (λ old r response new. Responds capacity first kept page metrics old r response new)
-      (record { seen = before; asked = asked; terms = terms; answered = 0 }) last input left out sent
+      (record { seen = before; asked = asked; terms = terms; beats = beats; answered = 0 }) last input left out sent
   pub seen : IsLater last.seen after
   pub all : end ≢ NotStored → after ≡ last.seen
   pub said_is : end ≢ NotStored → said ≡ last.asked

@@ -10,7 +10,7 @@ ghost use Rattle.hg_http.specs.Requests.{argument_in, arguments_of};
 ghost use Rattle.hg_http.specs.Requests.{name_of};
 ghost use Rattle.hg_wireproto.specs.Batch.{commands_of};
 ghost use Rattle.hg_queries.specs.Texts.{refusal_of as why_refused, IsBatchText, IsTextOf};
-ghost use Rattle.hg_commit.specs.Clients.{IsCovered};
+ghost use Rattle.hg_commit.specs.Clients.{IsKept};
 ghost use Rattle.hg_web.specs.Answering.{AnswersRequest, AnswersAsked, AnswersBatch, AnswersCommand, AnswersForced};
 ghost use Rattle.hg_web.specs.Answering.{around_of, capabilities_with, is_look, IsTextAt, OrLacks, pull_answer, user_named};
 ghost use Rattle.hg_http.specs.Policies.{AsksOnce, HasAsked};
@@ -58,7 +58,8 @@ pub fn answer_request<
     policy: &mut P,
 ) -> (KeptClient<J, A>, Result<HttpAnswer<A>, NotStored>)
     ensures answered { Answered (AnswersRequest J.capacity J.first
-        (around_of (IsCovered D.seen D.may_leave D.moment J.head J.stored J.first) S.is_page S.are_metrics terms.now)
+        (around_of (IsKept D.seen D.may_leave D.moment J.head J.stored J.first host.now.keeping.ledger.now.has_beats)
+        S.is_page S.are_metrics terms.now)
         (HasAsked (P.asked policy.old) (P.asked policy.new)) request.now) client result.1 result.0 }
     ensures asks { AsksOnce (P.asked policy.old) (P.asked policy.new) }
 {
@@ -85,7 +86,8 @@ fn answer_addressed<
     policy: &mut P,
 ) -> (KeptClient<J, A>, Result<HttpAnswer<A>, NotStored>)
     ensures answered { Answered (AnswersRequest J.capacity J.first
-        (around_of (IsCovered D.seen D.may_leave D.moment J.head J.stored J.first) S.is_page S.are_metrics terms.now)
+        (around_of (IsKept D.seen D.may_leave D.moment J.head J.stored J.first host.now.keeping.ledger.now.has_beats)
+        S.is_page S.are_metrics terms.now)
         (HasAsked (P.asked policy.old) (P.asked policy.new)) request.now) client result.1 result.0 }
     ensures asks { AsksOnce (P.asked policy.old) (P.asked policy.new) }
 {
@@ -137,7 +139,8 @@ fn answer_asked<
     policy: &mut P,
 ) -> (KeptClient<J, A>, Result<HttpAnswer<A>, NotStored>)
     ensures answered { Answered (OrLacks (is_look command) (AnswersAsked J.capacity J.first
-        (around_of (IsCovered D.seen D.may_leave D.moment J.head J.stored J.first) S.is_page S.are_metrics terms.now)
+        (around_of (IsKept D.seen D.may_leave D.moment J.head J.stored J.first host.now.keeping.ledger.now.has_beats)
+        S.is_page S.are_metrics terms.now)
         (HasAsked (P.asked policy.old) (P.asked policy.new)) command fields.now request.now))
         client result.1 result.0 }
     ensures asks { AsksOnce (P.asked policy.old) (P.asked policy.new) }
@@ -175,7 +178,7 @@ fn answer_command<
     policy: &mut P,
 ) -> (KeptClient<J, A>, Result<HttpAnswer<A>, NotStored>)
     ensures answered { Answered (OrLacks (is_look (Some command)) (AnswersCommand J.capacity J.first
-        (IsCovered D.seen D.may_leave D.moment J.head J.stored J.first)
+        (IsKept D.seen D.may_leave D.moment J.head J.stored J.first host.now.keeping.ledger.now.has_beats)
         (HasAsked (P.asked policy.old) (P.asked policy.new)) (option_copied terms.now.user)
         (option_copied terms.now.pull)
         (option_copied terms.now.also) command fields.now request.now)) client result.1 result.0 }
@@ -254,7 +257,7 @@ fn answer_read<J: Storing<A>, D: Device, A: Allocator + Copy, R: Wait>(
     fields: &[Field<A>],
 ) -> (KeptClient<J, A>, Result<HttpAnswer<A>, NotStored>)
     ensures { Answered (OrLacks true (IsTextAt J.first
-        (IsCovered D.seen D.may_leave D.moment J.head J.stored J.first)
+        (IsKept D.seen D.may_leave D.moment J.head J.stored J.first host.now.keeping.ledger.now.has_beats)
         (λ repo text. IsTextOf repo read (argument_in fields.now (subject read)) text)))
         client result.1 result.0 }
 {
@@ -282,7 +285,7 @@ fn answer_look<J: Storing<A>, D: Device, A: Allocator + Copy, R: Wait, L>(
 where
     L: Look<J, A, Result<Seq<u8, A>, NoMemory>>,
     ensures { Answered (OrLacks true (IsTextAt J.first
-        (IsCovered D.seen D.may_leave D.moment J.head J.stored J.first)
+        (IsKept D.seen D.may_leave D.moment J.head J.stored J.first keeping.now.ledger.now.has_beats)
         (λ repo text. L.finds at.now repo (Ok text)))) client result.1 result.0 }
 {
     let (client, looked) = look_kept(keeping, client, at);
@@ -322,7 +325,8 @@ fn answer_batch<J: Storing<A>, D: Device, A: Allocator + Copy, R: Wait>(
     fields: &[Field<A>],
 ) -> (KeptClient<J, A>, Result<HttpAnswer<A>, NotStored>)
     ensures { let commands = commands_of (argument_in fields.now (codes "cmds")) in
-        Answered (OrLacks true (AnswersBatch J.first (IsCovered D.seen D.may_leave D.moment J.head J.stored J.first)
+        Answered (OrLacks true (AnswersBatch J.first
+        (IsKept D.seen D.may_leave D.moment J.head J.stored J.first host.now.keeping.ledger.now.has_beats)
         commands (why_refused commands))) client result.1 result.0 }
 {
     match read_batch(host.keeping.alloc, argument(fields, b"cmds".as_slice())) {
@@ -338,7 +342,8 @@ fn answer_commands<J: Storing<A>, D: Device, A: Allocator + Copy, R: Wait>(
     commands: &[hg_wireproto::BatchCommand<A>],
 ) -> (KeptClient<J, A>, Result<HttpAnswer<A>, NotStored>)
     ensures { Answered (OrLacks true (AnswersBatch J.first
-        (IsCovered D.seen D.may_leave D.moment J.head J.stored J.first) commands.now (why_refused commands.now)))
+        (IsKept D.seen D.may_leave D.moment J.head J.stored J.first host.now.keeping.ledger.now.has_beats)
+        commands.now (why_refused commands.now)))
         client result.1 result.0 }
 {
     if let Some(why) = refusal_of(commands) {
@@ -375,7 +380,7 @@ fn answer_unbundle<
     policy: &mut P,
 ) -> (KeptClient<J, A>, Result<HttpAnswer<A>, NotStored>)
     ensures answered { Answered (AnswersForced J.capacity J.first
-        (IsCovered D.seen D.may_leave D.moment J.head J.stored J.first)
+        (IsKept D.seen D.may_leave D.moment J.head J.stored J.first keeping.now.ledger.now.has_beats)
         (HasAsked (P.asked policy.old) (P.asked policy.new)) (user_named (option_copied believed.entry) request.now)
         (body_of request.now)
         (bytes_eq (argument_in fields.now (codes "heads")) (codes "666f726365")))

@@ -6,7 +6,7 @@ ghost use Rattle.std.specs.List.{list_any};
 ghost use Rattle.hg_http.specs.Policies.{AsksOnce, HasAsked};
 ghost use Rattle.std.specs.Option.{option_copied};
 ghost use Rattle.hg_web.specs.Answering.{AnswersChange, AnswersFitting, AnswersPushKey, OrLacks, user_named};
-ghost use Rattle.hg_commit.specs.Clients.{IsCovered};
+ghost use Rattle.hg_commit.specs.Clients.{IsKept};
 ghost use Rattle.hg_web.specs.Pushes.{Answered, IsPushAnswered, IsReply, is_one as returns_one};
 ghost use Rattle.hg_web.specs.Pushes.{is_set as key_is_set, key_line, set_line};
 ghost use Rattle.hg_web.specs.Pushes.{says_one as part_says_one};
@@ -41,7 +41,7 @@ pub fn push_key<J: Storing<A>, D: Device, A: Allocator + Copy, R: Wait, V: Watch
     policy: &mut P,
 ) -> (KeptClient<J, A>, Result<HttpAnswer<A>, NotStored>)
     ensures answered { Answered (OrLacks false (AnswersPushKey J.capacity J.first
-        (IsCovered D.seen D.may_leave D.moment J.head J.stored J.first)
+        (IsKept D.seen D.may_leave D.moment J.head J.stored J.first keeping.now.ledger.now.has_beats)
         (HasAsked (P.asked policy.old) (P.asked policy.new)) (user_named (option_copied believed.entry) request.now)
         fields.now)) client result.1 result.0 }
     ensures asks { AsksOnce (P.asked policy.old) (P.asked policy.new) }
@@ -60,7 +60,7 @@ fn push_fields<J: Storing<A>, D: Device, A: Allocator + Copy, R: Wait, V: Watch<
     policy: &mut P,
 ) -> (KeptClient<J, A>, Result<HttpAnswer<A>, NotStored>)
     ensures answered { Answered (OrLacks false (AnswersPushKey J.capacity J.first
-        (IsCovered D.seen D.may_leave D.moment J.head J.stored J.first)
+        (IsKept D.seen D.may_leave D.moment J.head J.stored J.first keeping.now.ledger.now.has_beats)
         (HasAsked (P.asked policy.old) (P.asked policy.new)) pusher.now.name fields.now)) client result.1 result.0 }
     ensures asks { AsksOnce (P.asked policy.old) (P.asked policy.new) }
 {
@@ -78,7 +78,7 @@ fn push_change<J: Storing<A>, D: Device, A: Allocator + Copy, R: Wait, V: Watch<
     policy: &mut P,
 ) -> (KeptClient<J, A>, Result<HttpAnswer<A>, NotStored>)
     ensures answered { Answered (OrLacks false (AnswersChange J.capacity J.first
-        (IsCovered D.seen D.may_leave D.moment J.head J.stored J.first)
+        (IsKept D.seen D.may_leave D.moment J.head J.stored J.first keeping.now.ledger.now.has_beats)
         (HasAsked (P.asked policy.old) (P.asked policy.new)) pusher.now.name change.now.namespace.now
         change.now.key.now change.now.old.now change.now.new.now)) client result.1 result.0 }
     ensures asks { AsksOnce (P.asked policy.old) (P.asked policy.new) }
@@ -104,7 +104,7 @@ fn set_key<J: Storing<A>, D: Device, A: Allocator + Copy, R: Wait, V: Watch<A>, 
     requires { can_fit change.now.namespace.now change.now.key.now change.now.old.now
         change.now.new.now ≡ true }
     ensures answered { Answered (OrLacks false (AnswersFitting J.capacity J.first
-        (IsCovered D.seen D.may_leave D.moment J.head J.stored J.first)
+        (IsKept D.seen D.may_leave D.moment J.head J.stored J.first keeping.now.ledger.now.has_beats)
         (HasAsked (P.asked policy.old) (P.asked policy.new)) pusher.now.name change.now.namespace.now
         change.now.key.now change.now.old.now change.now.new.now)) client result.1 result.0 }
     ensures asks { AsksOnce (P.asked policy.old) (P.asked policy.new) }
@@ -124,7 +124,8 @@ pub fn push_for_key<J: Storing<A>, D: Device, A: Allocator + Copy, R: Wait, V: W
     watch: &mut V,
 ) -> (KeptClient<J, A>, Result<HttpAnswer<A>, NotStored>)
     ensures { Answered (IsPushAnswered J.capacity J.first
-        (IsCovered D.seen D.may_leave D.moment J.head J.stored J.first) pusher.now bundle.now key_line)
+        (IsKept D.seen D.may_leave D.moment J.head J.stored J.first keeping.now.ledger.now.has_beats)
+        pusher.now bundle.now key_line)
         client result.1 result.0 }
 {
     let Ok(stamp) = pusher.stamp(keeping.alloc) else {

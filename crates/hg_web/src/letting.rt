@@ -2,7 +2,7 @@
 
 ghost use Rattle.std.specs.Prelude.{◌≡◌};
 ghost use Rattle.hg_push.specs.Reply.{reply_of};
-ghost use Rattle.hg_commit.specs.Clients.{IsCovered};
+ghost use Rattle.hg_commit.specs.Clients.{IsKept};
 ghost use Rattle.hg_http.specs.Policies.{AsksOnce, HasAsked};
 ghost use Rattle.hg_web.specs.Answering.{AnswersPush};
 ghost use Rattle.hg_web.specs.Letting.{denial_of};
@@ -37,7 +37,7 @@ pub fn unbundle_if_let<
     policy: &mut P,
 ) -> (KeptClient<J, A>, Result<HttpAnswer<A>, NotStored>)
     ensures answered { Answered (AnswersPush J.capacity J.first
-        (IsCovered D.seen D.may_leave D.moment J.head J.stored J.first)
+        (IsKept D.seen D.may_leave D.moment J.head J.stored J.first keeping.now.ledger.now.has_beats)
         (HasAsked (P.asked policy.old) (P.asked policy.new)) pusher.now.name body.now reply_of) client result.1 result.0 }
     ensures asks { AsksOnce (P.asked policy.old) (P.asked policy.new) }
 {
@@ -64,7 +64,7 @@ pub fn push_key_if_let<
     policy: &mut P,
 ) -> (KeptClient<J, A>, Result<HttpAnswer<A>, NotStored>)
     ensures answered { Answered (AnswersPush J.capacity J.first
-        (IsCovered D.seen D.may_leave D.moment J.head J.stored J.first)
+        (IsKept D.seen D.may_leave D.moment J.head J.stored J.first keeping.now.ledger.now.has_beats)
         (HasAsked (P.asked policy.old) (P.asked policy.new)) pusher.now.name bundle.now key_line) client result.1 result.0 }
     ensures asks { AsksOnce (P.asked policy.old) (P.asked policy.new) }
 {

@@ -1,7 +1,7 @@
 //! A look at the repository, whose answer is given once it is kept.
 
 ghost use Rattle.std.specs.Prelude.{◌≡◌, ◌≤◌, MatchResult};
-ghost use Rattle.hg_commit.specs.Clients.{IsCovered, IsLater};
+ghost use Rattle.hg_commit.specs.Clients.{IsKept, IsLater};
 ghost use Rattle.hg_commit.specs.Records.{done_in};
 ghost use Rattle.hg_push.specs.Run.{RepositoryOf};
 ghost use Rattle.hg_serve.specs.Answers.{Looks};
@@ -56,7 +56,9 @@ pub fn look_kept<J: Storing<A>, D: Device, A: Allocator + Copy, R: Wait, T: Drop
     at: &L,
 ) -> (KeptClient<J, A>, Result<(T, usize), NotStored>)
     ensures { MatchResult result.1
-        (λ found. LooksKept J.first (IsCovered D.seen D.may_leave D.moment J.head J.stored J.first) client
+        (λ found. LooksKept J.first
+        (IsKept D.seen D.may_leave D.moment J.head J.stored J.first keeping.now.ledger.now.has_beats)
+        client
         result.0 (λ repo. L.finds at.now repo found.0) × (found.1 ≡ done_in J.first result.0.history))
         (λ _. IsLater client result.0) }
 {

@@ -2,7 +2,7 @@
 
 ghost use Rattle.std.specs.Prelude.{◌≡◌, [], IfOk, IfSome};
 ghost use Rattle.hg_push.specs.Reply.{reply_of};
-ghost use Rattle.hg_commit.specs.Clients.{IsCovered};
+ghost use Rattle.hg_commit.specs.Clients.{IsKept};
 ghost use Rattle.hg_durable.specs.Kept.{MayBeTold};
 ghost use Rattle.hg_web.specs.Pushes.{Answered, IsPushAnswered, IsReply, PushesOrFails};
 ghost use Rattle.hg_web.specs.code.Rounds.{IsOfRound};
@@ -51,7 +51,8 @@ pub fn push_bundle<
 ) -> (KeptClient<J, A>, Result<Option<KeptPush<A>>, NotStored>)
     requires { K.kept kept ≡ [] }
     ensures { PushesOrFails J.capacity J.first
-        (IsCovered D.seen D.may_leave D.moment J.head J.stored J.first) stamp client bundle.now result.1 result.0 }
+        (IsKept D.seen D.may_leave D.moment J.head J.stored J.first keeping.now.ledger.now.has_beats)
+        stamp client bundle.now result.1 result.0 }
 {
     let limits = *keeping.server.limits();
     let opened = match open_kept(keeping, client) {
@@ -134,7 +135,8 @@ pub fn unbundle<J: Storing<A>, D: Device, A: Allocator + Copy, R: Wait, V: Watch
     watch: &mut V,
 ) -> (KeptClient<J, A>, Result<HttpAnswer<A>, NotStored>)
     ensures { Answered (IsPushAnswered J.capacity J.first
-        (IsCovered D.seen D.may_leave D.moment J.head J.stored J.first) pusher.now body.now reply_of)
+        (IsKept D.seen D.may_leave D.moment J.head J.stored J.first keeping.now.ledger.now.has_beats)
+        pusher.now body.now reply_of)
         client result.1 result.0 }
 {
     let Ok(stamp) = pusher.stamp(keeping.alloc) else {

@@ -8,7 +8,7 @@ ghost use Rattle.std.specs.Io.KnownBytes.{Appends, Consumes, Keeps};
 ghost use Rattle.http_server.specs.Connection.{config_of, history};
 ghost use Rattle.http_server.specs.Exchange.{Calls};
 ghost use Rattle.http_server.specs.History.{IsQuiet, Rests, new_history};
-ghost use Rattle.hg_commit.specs.Clients.{IsCovered};
+ghost use Rattle.hg_commit.specs.Clients.{IsKept};
 ghost use Rattle.hg_web.specs.Answering.{Responds};
 ghost use Rattle.hg_web.specs.Serving.{Converses, lost_text, no_room_text, ServesHttp};
 ghost use Rattle.hg_http.specs.Following.{AreRequests, FollowsAt, KeepsUp, limits_of};
@@ -73,8 +73,8 @@ pub fn serve_http<
     reader: &mut I,
     writer: &mut W,
 ) -> (KeptClient<J>, P, ConnectionEnd)
-    ensures { ServesHttp J.capacity J.first (IsCovered D.seen D.may_leave D.moment J.head J.stored J.first) S.is_page
-        S.are_metrics terms.now (P.asked policy) (P.asked result.1) client (I.remaining reader.old)
+    ensures { ServesHttp J.capacity J.first (IsKept D.seen D.may_leave D.moment J.head J.stored J.first) S.is_page
+        S.are_metrics terms.now ledger.now.has_beats (P.asked policy) (P.asked result.1) client (I.remaining reader.old)
         (I.remaining reader.new) (W.contents writer.old) (W.contents writer.new) result.2 result.0 }
 {
     let mut config = Config::default();
@@ -160,7 +160,7 @@ fn serve_stretches<
     writer: &mut W,
 ) -> io::Result<()>
     ensures { Converses (result ≢ Ok tt) config (Responds J.capacity J.first
-        (IsCovered D.seen D.may_leave D.moment J.head J.stored J.first) S.is_page S.are_metrics) wire.old wire.new
+        (IsKept D.seen D.may_leave D.moment J.head J.stored J.first) S.is_page S.are_metrics) wire.old wire.new
         (I.remaining reader.old) (I.remaining reader.new) (W.contents writer.old) (W.contents writer.new) }
 {
     // A loop is proved to end, so this one counts its turns.
@@ -215,7 +215,7 @@ fn serve_stretch<
     requires { (history connection.old ≡ new_history) × FollowsAt follower.old [] 0
         × (limits_of follower.old ≡ (config_of connection.old).limits) }
     ensures { EndsStretch (config_of connection.old) (Responds J.capacity J.first
-        (IsCovered D.seen D.may_leave D.moment J.head J.stored J.first) S.is_page S.are_metrics) wire.old wire.new
+        (IsKept D.seen D.may_leave D.moment J.head J.stored J.first) S.is_page S.are_metrics) wire.old wire.new
         (I.remaining reader.old) (I.remaining reader.new) (W.contents writer.old) (W.contents writer.new)
         follower.new result }
 {
@@ -395,7 +395,7 @@ fn converse<
     requires { (history connection.old ≡ new_history) × FollowsAt follower.old [] 0
         × (limits_of follower.old ≡ (config_of connection.old).limits) }
     ensures { EndsStretch (config_of connection.old) (Responds J.capacity J.first
-        (IsCovered D.seen D.may_leave D.moment J.head J.stored J.first) S.is_page S.are_metrics) wire.old wire.new
+        (IsKept D.seen D.may_leave D.moment J.head J.stored J.first) S.is_page S.are_metrics) wire.old wire.new
         (I.remaining reader.old) (I.remaining reader.new) (W.contents writer.old) (W.contents writer.new)
         follower.new result }
 {
@@ -450,7 +450,7 @@ fn advance<
     wire: &mut Wire<'_, J, D, R, S, V, P, A>,
     share: &mut Share<'_>,
 ) -> bool
-    ensures calls { Calls (Responds J.capacity J.first (IsCovered D.seen D.may_leave D.moment J.head J.stored J.first)
+    ensures calls { Calls (Responds J.capacity J.first (IsKept D.seen D.may_leave D.moment J.head J.stored J.first)
         S.is_page S.are_metrics) wire.old wire.new (history connection.old).calls
         (history connection.new).calls }
     ensures none { result ≡ false → wire.new ≡ wire.old }

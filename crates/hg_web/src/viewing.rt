@@ -1,7 +1,7 @@
 //! What is shown without a command.
 
 ghost use Rattle.std.specs.Prelude.{true};
-ghost use Rattle.hg_commit.specs.Clients.{IsCovered};
+ghost use Rattle.hg_commit.specs.Clients.{IsKept};
 ghost use Rattle.hg_web.specs.Answering.{AnswersView, around_of, OrLacks};
 ghost use Rattle.hg_web.specs.Pushes.{Answered};
 
@@ -23,7 +23,8 @@ pub fn answer_view<J: Storing<A>, D: Device, A: Allocator + Copy, R: Wait, S: Sh
     view: Option<StatusView>,
 ) -> (KeptClient<J, A>, Result<HttpAnswer<A>, NotStored>)
     ensures { Answered (OrLacks true (AnswersView J.first
-        (around_of (IsCovered D.seen D.may_leave D.moment J.head J.stored J.first) S.is_page S.are_metrics terms.now)
+        (around_of (IsKept D.seen D.may_leave D.moment J.head J.stored J.first keeping.now.ledger.now.has_beats)
+        S.is_page S.are_metrics terms.now)
         view)) client result.1 result.0 }
 {
     let Some(view) = view else {

@@ -2,7 +2,7 @@
 
 ghost use Rattle.std.specs.Prelude.{◌≡◌, ◌≤◌, false, true, None, Some, OnErr, OnOk, vec_capacity};
 ghost use Rattle.http_server.specs.Response.{IsBlank};
-ghost use Rattle.hg_commit.specs.Clients.{IsCovered, IsLater};
+ghost use Rattle.hg_commit.specs.Clients.{IsKept, IsLater};
 ghost use Rattle.hg_web.specs.Answering.{Responds};
 
 use crate::answering::answer_request;
@@ -22,8 +22,8 @@ use std::sync::Wait;
 /// shorter.
 const SPARE: usize = 4 * 1024;
 
-/// What a connection is served by. Contracts see the history that the last answer spoke of, and how many requests
-/// were answered.
+/// What a connection is served by. Contracts see the history that the last answer spoke of, whether answers rest on
+/// beats, and how many requests were answered.
 pub struct Wire<
     'a,
     J: Storing<A>,
@@ -71,6 +71,7 @@ where
       seen = seen_last w.seen.items;
       asked = asked_last P.asked w.seen.items;
       terms = w.terms.now;
+      beats = w.host.keeping.ledger.now.has_beats;
       answered = w.answered;
     } };
 
@@ -98,7 +99,13 @@ where
         watch: &'a mut V,
         policy: P,
     ) -> Self
-        ensures { result ≡ record { seen = client; asked = P.asked policy; terms = terms.now; answered = 0 } }
+        ensures { result ≡ record {
+          seen = client;
+          asked = P.asked policy;
+          terms = terms.now;
+          beats = host.entry.keeping.ledger.now.has_beats;
+          answered = 0;
+        } }
     {
         let seen = Log::new().and(&client, &policy);
         Wire {
@@ -173,7 +180,7 @@ where
     ) -> Result<(), AllocError>
         requires { IsBlank response.old }
         ensures ok { OnOk result (Responds J.capacity J.first
-            (IsCovered D.seen D.may_leave D.moment J.head J.stored J.first) S.is_page S.are_metrics
+            (IsKept D.seen D.may_leave D.moment J.head J.stored J.first) S.is_page S.are_metrics
             self.old request.now response.new self.new) }
         ensures err { OnErr result (self.new ≡ self.old) }
     {
@@ -221,11 +228,11 @@ where
     P: Policy<A>,
     A: Allocator + Copy,
 {
-    ghost use Rattle.hg_commit.specs.Clients.{IsCovered};
+    ghost use Rattle.hg_commit.specs.Clients.{IsKept};
     ghost use Rattle.hg_web.specs.Answering.{Responds};
 
     ghost answers = { λ old request response new. Responds J.capacity J.first
-        (IsCovered D.seen D.may_leave D.moment J.head J.stored J.first) S.is_page S.are_metrics old request response
+        (IsKept D.seen D.may_leave D.moment J.head J.stored J.first) S.is_page S.are_metrics old request response
         new };
 
     /// Where the store failed there is no answer, and the connection ends.

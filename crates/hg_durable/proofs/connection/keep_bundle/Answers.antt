@@ -9,7 +9,7 @@ use Rattle.hg_commit.specs.Clients.{KeptSeen}
 use Rattle.hg_commit.specs.Orders.{HasGrown, ReceiptView}
 use Rattle.hg_commit.specs.Records.{IsRecordOf}
 use Rattle.hg_connection.proofs.CallerLemmas.{bundle_reply_short}
-use Rattle.hg_durable.specs.Kept.{IsKeptOrNot, KeptExchange, record_of}
+use Rattle.hg_durable.specs.Kept.{IsKeptOrNot, KeptExchange, OpenedView, record_of}
 use Rattle.hg_durable.proofs.Exchanges.{answered, client_of, granted, handed, hands_in, kept_on, kept_or_not, may_be_told, recorded, rested}
 use Rattle.hg_durable.proofs.connection.keep_bundle.Goals as goal
 use Rattle.hg_store.specs.Entries.{Entry}
@@ -47,11 +47,17 @@ returns-clause-kept g c =
     let client : KeptSeen g.row.A.Denot = c.of-client.result in
     let after : KeptSeen g.row.A.Denot = client_of c.keep-kept.result in
     let e = c.mark-ended.result in
+    let beats = c.args.keeping.now.ledger.now.has_beats in
     let gets = granted g.D.Device.seen g.D.Device.may_leave g.D.Device.moment g.J.Storing.head g.J.Storing.stored first
-    client rests (option_to_list c.record_of-record.result) c.keep-kept.result k.kept k.failed in
+    client rests (option_to_list c.record_of-record.result) beats c.keep-kept.result k.kept k.failed in
     let seen : c.answer_resting-answer.result.2 ≡ after.history = sym (gets.same
     ∙ ap (λ (v : KeptSeen g.row.A.Denot). v.history) c.of-client.ensures) in
     let receipt = ap (λ (v : KeptSeen g.row.A.Denot). v.receipt) c.of-client.ensures in
+    let asked = receipt ∙ ap (λ (o : OpenedView g.row.A.Denot). o.client.receipt) c.opened.view_is in
+    let entries = ap option_to_list (c.record_of-record.ensures ∙ hands_in server capacity first c.args.inbox.now
+    c.receive_kept-ending.new.inbox _ _ c.opened.inside.sender c.receive_kept-ending.new.sender
+    c.receive_kept-ending.result (g.K.Keep.kept c.receive_kept-ending.new.kept) e takes
+    c.answer_resting-answer.result.2 rests r m c.limits-limits.ensures.first how a.answers c.args.stamp) in
     let answers = subst (λ (h : List (Taken g.row.A.Denot)). Answers capacity first e.push e.put e.history how takes h)
     seen a.answers in
     let on = subst (λ (h : List (Taken g.row.A.Denot)). RestsOn run_push first (newest_first h) e.push how rests) seen
@@ -111,14 +117,12 @@ returns-clause-kept g c =
         how_is = refl;
         takes_are = refl;
         rests_are = refl;
-        kept_is = subst (λ (entries : List Entry). IsKeptOrNot g.D.Device.seen g.D.Device.may_leave g.D.Device.moment
-            g.J.Storing.head g.J.Storing.stored first after rests entries c.keep-kept.result)
-            (ap option_to_list (c.record_of-record.ensures ∙ hands_in server capacity first c.args.inbox.now
-            c.receive_kept-ending.new.inbox _ _ c.opened.inside.sender c.receive_kept-ending.new.sender
-            c.receive_kept-ending.result (g.K.Keep.kept c.receive_kept-ending.new.kept) e takes
-            c.answer_resting-answer.result.2 rests r m c.limits-limits.ensures.first how a.answers c.args.stamp))
+        kept_is = subst (λ (y : List Entry × ReceiptView). IsKeptOrNot g.D.Device.seen g.D.Device.may_leave
+            g.D.Device.moment g.J.Storing.head g.J.Storing.stored first beats y.1 after rests y.0 c.keep-kept.result)
+            (λ i. (entries i, asked i))
             (kept_or_not g.D.Device.seen g.D.Device.may_leave g.D.Device.moment g.J.Storing.head
-            g.J.Storing.stored first client rests (option_to_list c.record_of-record.result) c.keep-kept.result k.kept);
+            g.J.Storing.stored first client rests (option_to_list c.record_of-record.result) beats c.keep-kept.result
+            k.kept k.beat);
       },
     )
 
@@ -127,4 +131,5 @@ returns-clause-told g c =
     let s = returns-clause-kept g c in
     may_be_told g.D.Device.seen g.D.Device.may_leave g.D.Device.moment g.J.Storing.head g.J.Storing.stored
     c.args.keeping.now.server.now g.J.Naming.capacity g.J.Naming.first c.args.opened.client c.args.inbox.now s.0
-    c.answer_resting-answer.result.0.outcome c.keep-kept.result s.1.is s.2.how_is s.2.kept_is
+    c.answer_resting-answer.result.0.outcome c.keep-kept.result c.args.keeping.now.ledger.now.has_beats
+    c.args.opened.client.receipt s.1.is s.2.how_is s.2.kept_is

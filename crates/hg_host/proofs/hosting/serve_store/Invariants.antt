@@ -13,6 +13,7 @@ ghosts-host_named-J-Storing g a =
       stored = records_of a.recovered.records.items;
       opened = g.D.Device.moment a.recovered.log.device;
       tally = a.tally.id;
+      beats = a.terms.shared;
     }
 
 abbrev pub ghosts-host_named-J-Ledger : goal.ghosts-host_named-J-Ledger

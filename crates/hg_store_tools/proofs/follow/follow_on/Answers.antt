@@ -8,7 +8,8 @@ use Rattle.hg_store_tools.proofs.follow.follow_on.Goals as goal
 pub returns-in-Err-clause-err : goal.returns-in-Err-clause-err
 returns-in-Err-clause-err g c =
     let some = c.in-Err.ensures.some in
-    step_starves g.row.A.Denot c.args.log.now c.args.place (g.T.StoreTrail.found c.args.trail.now)
+    step_starves g.row.A.Denot c.args.log.now (g.T.StoreTrail.first c.args.trail.now) c.args.place
+    (g.T.StoreTrail.found c.args.trail.now)
     (g.T.StoreTrail.durable c.args.trail.now) (g.T.StoreTrail.found c.find_more.new.trail)
     (g.T.StoreTrail.durable c.find_more.new.trail) some.0 (g.W.Writer.told c.args.writer.now).taken c.requires some.1
     c.in-Err.ensures.durable c.in-Err.fault c.in-Err.ensures.why
@@ -18,14 +19,16 @@ returns-then-is_empty-clause-ok g c =
     let more = c.in-Ok.more in
     let none : vec_len more ≡ 0 = eqb-true _ _ (sym c.is_empty.ensures ∙ c.if-is_empty.true) in
     let nil : more.items ≡ [] = nil_from_length more.items (sym more.ok.0 ∙ none) in
-    step_idle g.row.A.Denot c.args.log.now c.args.place (g.T.StoreTrail.found c.args.trail.now)
+    step_idle g.row.A.Denot c.args.log.now (g.T.StoreTrail.first c.args.trail.now) c.args.place
+    (g.T.StoreTrail.found c.args.trail.now)
     (g.T.StoreTrail.durable c.args.trail.now) (g.T.StoreTrail.found c.find_more.new.trail)
     (g.T.StoreTrail.durable c.find_more.new.trail) more.items (g.W.Writer.told c.args.writer.now).taken c.requires
     c.in-Ok.ensures.found c.in-Ok.ensures.durable nil
 
 pub returns-in-Err-sync-clause-err : goal.returns-in-Err-sync-clause-err
 returns-in-Err-sync-clause-err g c =
-    step_unsynced g.row.A.Denot c.args.log.now c.args.place (g.T.StoreTrail.found c.args.trail.now)
+    step_unsynced g.row.A.Denot c.args.log.now (g.T.StoreTrail.first c.args.trail.now) c.args.place
+    (g.T.StoreTrail.found c.args.trail.now)
     (g.T.StoreTrail.durable c.args.trail.now) (g.T.StoreTrail.found c.find_more.new.trail)
     (g.T.StoreTrail.durable c.find_more.new.trail) c.in-Ok.more.items (g.W.Writer.told c.args.writer.now).taken
     c.requires c.in-Ok.ensures.found c.in-Ok.ensures.durable (g.T.StoreTrail.found c.sync.new.self)
@@ -35,7 +38,8 @@ returns-in-Err-sync-clause-err g c =
 pub returns-clause-ok : goal.returns-clause-ok
 returns-clause-ok g c =
     IfOk-weaker c.write_frames.result _ _
-    (λ next sends. step_sent g.row.A.Denot c.args.log.now c.args.place (g.T.StoreTrail.found c.args.trail.now)
+    (λ next sends. step_sent g.row.A.Denot c.args.log.now (g.T.StoreTrail.first c.args.trail.now) c.args.place
+    (g.T.StoreTrail.found c.args.trail.now)
     (g.T.StoreTrail.durable c.args.trail.now) (g.T.StoreTrail.found c.find_more.new.trail)
     (g.T.StoreTrail.durable c.find_more.new.trail) c.in-Ok.more.items (g.W.Writer.told c.args.writer.now).taken
     c.requires c.in-Ok.ensures.found c.in-Ok.ensures.durable (g.T.StoreTrail.found c.sync.new.self)
@@ -46,7 +50,8 @@ returns-clause-ok g c =
 pub returns-clause-err : goal.returns-clause-err
 returns-clause-err g c =
     MatchResult-weaker c.write_frames.result c.write_frames.ensures.err (λ _ _. tt)
-    (λ fault stops. step_unsent g.row.A.Denot c.args.log.now c.args.place (g.T.StoreTrail.found c.args.trail.now)
+    (λ fault stops. step_unsent g.row.A.Denot c.args.log.now (g.T.StoreTrail.first c.args.trail.now) c.args.place
+    (g.T.StoreTrail.found c.args.trail.now)
     (g.T.StoreTrail.durable c.args.trail.now) (g.T.StoreTrail.found c.find_more.new.trail)
     (g.T.StoreTrail.durable c.find_more.new.trail) c.in-Ok.more.items (g.W.Writer.told c.args.writer.now).taken
     c.requires c.in-Ok.ensures.found c.in-Ok.ensures.durable (g.T.StoreTrail.found c.sync.new.self)

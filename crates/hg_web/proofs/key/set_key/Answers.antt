@@ -1,5 +1,5 @@
 use Rattle.std.proofs.Common.{◌∙◌, ℕ, List, false, subst}
-use Rattle.hg_commit.specs.Clients.{IsCovered}
+use Rattle.hg_commit.specs.Clients.{IsKept}
 use Rattle.hg_http.specs.Policies.{HasAsked}
 use Rattle.hg_web.specs.Answering.{AnswersFitting, AnswersPush}
 use Rattle.hg_web.specs.Pushes.{Answered, key_line}
@@ -8,8 +8,8 @@ use Rattle.hg_web.proofs.key.set_key.Goals as goal
 
 pub returns-in-Ok-clause-answered : goal.returns-in-Ok-clause-answered
 returns-in-Ok-clause-answered g c =
-    let kept = IsCovered g.D.Device.seen g.D.Device.may_leave g.D.Device.moment g.J.Storing.head g.J.Storing.stored
-    g.J.Naming.first in
+    let kept = IsKept g.D.Device.seen g.D.Device.may_leave g.D.Device.moment g.J.Storing.head g.J.Storing.stored
+    g.J.Naming.first c.args.keeping.now.ledger.now.has_beats in
     let asks = HasAsked (g.P.Policy.asked c.args.policy.now) (g.P.Policy.asked c.push_key_if_let.new.policy) in
     let change = c.args.change.now in
     or_lacks false (AnswersFitting g.J.Naming.capacity g.J.Naming.first kept asks c.args.pusher.now.name change.namespace.now change.key.now

@@ -1,6 +1,6 @@
 use Rattle.std.proofs.Common.{true, Option, subst, sym}
 use Rattle.hg_http.specs.declared.view.StatusView.{StatusView}
-use Rattle.hg_commit.specs.Clients.{IsCovered}
+use Rattle.hg_commit.specs.Clients.{IsKept}
 use Rattle.hg_queries.specs.Views.{IsViewed}
 use Rattle.hg_web.specs.Answering.{AnswersView, around_of, OrLacks}
 use Rattle.hg_web.proofs.Later.{shown_or_lacks, went}
@@ -8,8 +8,8 @@ use Rattle.hg_web.proofs.viewing.answer_view.Goals as goal
 
 pub returns-in-Ok : goal.returns-in-Ok
 returns-in-Ok g c =
-    let kept = IsCovered g.D.Device.seen g.D.Device.may_leave g.D.Device.moment g.J.Storing.head g.J.Storing.stored
-    g.J.Naming.first in
+    let kept = IsKept g.D.Device.seen g.D.Device.may_leave g.D.Device.moment g.J.Storing.head g.J.Storing.stored
+    g.J.Naming.first c.args.keeping.now.ledger.now.has_beats in
     let around = around_of kept g.S.Shown.is_page g.S.Shown.are_metrics c.args.terms.now in
     let after = c.look_kept-client.result.0 in
     let found = went _ _ _ _ c.in-Ok.is c.look_kept-client.ensures in

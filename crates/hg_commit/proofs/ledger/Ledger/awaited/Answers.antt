@@ -11,5 +11,5 @@ pub returns-clause-asked : goal.returns-clause-asked
 returns-clause-asked g c = λ with. next_of c.checked_add.result _ c.ask-begun.result _ _ c.checked_add.ensures
     c.ask-begun.ensures.asks
 
-pub returns-then-not-with_beat-clause-grows : goal.returns-then-not-with_beat-clause-grows
-returns-then-not-with_beat-clause-grows g c = as_before _
+pub returns-then-not-self-clause-grows : goal.returns-then-not-self-clause-grows
+returns-then-not-self-clause-grows g c = as_before _

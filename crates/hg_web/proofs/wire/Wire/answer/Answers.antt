@@ -1,5 +1,5 @@
 use Rattle.std.proofs.Common.{◌∙◌, ap, rules, subst, sym}
-use Rattle.hg_commit.specs.Clients.{IsCovered}
+use Rattle.hg_commit.specs.Clients.{IsKept}
 use Rattle.hg_http.specs.Policies.{HasAsked}
 use Rattle.hg_web.specs.Answering.{around_of, AnswersRequest}
 use Rattle.hg_web.specs.Pushes.{Answered}
@@ -17,7 +17,7 @@ invariant_of-self-in-Ok-4 g c =
 
 pub returns-in-Ok-clause-ok : goal.returns-in-Ok-clause-ok
 returns-in-Ok-clause-ok g c =
-    let kept = IsCovered g.D.Device.seen g.D.Device.may_leave g.D.Device.moment g.J.Storing.head g.J.Storing.stored
+    let kept = IsKept g.D.Device.seen g.D.Device.may_leave g.D.Device.moment g.J.Storing.head g.J.Storing.stored
     g.J.Naming.first in
     let inside = c.self.inside in
     let before = c.in-Some.client in
@@ -26,11 +26,11 @@ returns-in-Ok-clause-ok g c =
     let given = g.P.Policy.asked inside.policy in
     let ended = g.P.Policy.asked c.answer_request-client.new.policy in
     let answers = subst (λ r. Answered (AnswersRequest g.J.Naming.capacity g.J.Naming.first
-    (around_of kept g.S.Shown.is_page g.S.Shown.are_metrics inside.terms.now) (HasAsked given ended)
+    (around_of (kept inside.host.keeping.ledger.now.has_beats) g.S.Shown.is_page g.S.Shown.are_metrics inside.terms.now) (HasAsked given ended)
     c.args.request.now) before r after) c.in-Ok.is c.answer_request-client.ensures.answered in
     responds g.J.Naming.capacity g.J.Naming.first kept g.S.Shown.is_page g.S.Shown.are_metrics
     c.args.self.now c.match-answer-2.self c.args.request.now c.respond.new.response c.in-Ok.answer
-    inside.terms.now _ before after _ _ given _ ended _ _ c.self.view_is
+    inside.terms.now inside.host.keeping.ledger.now.has_beats _ before after _ _ given _ ended _ _ c.self.view_is
     (elim c.match-answer-2.branch [
       | in-Text-1 w ↦ w.self-is
       | in-Shown-1 w ↦ w.self-is

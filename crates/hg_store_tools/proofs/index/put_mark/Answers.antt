@@ -1,0 +1,10 @@
+use Rattle.std.proofs.Common.{◌≡◌, ◌∙◌, ap, List, ℕ, ◌++◌, append_assoc}
+use Rattle.hg_store_tools.proofs.Indexes.{three_more}
+use Rattle.hg_store_tools.proofs.index.put_mark.Goals as goal
+
+pub returns : goal.returns
+returns g c =
+    three_more c.args.bytes.now.items c.extend_from_slice.new.self.items c.extend_from_slice-2.new.self.items
+    c.extend_from_slice-3.new.self.items c.to_be_bytes.result c.to_be_bytes-2.result c.args.mark.now
+    c.to_be_bytes.ensures c.to_be_bytes-2.ensures c.in_ok-extend_from_slice.ensures.items
+    c.in_ok-extend_from_slice-2.ensures.items c.in_ok-extend_from_slice-3.ensures.items

@@ -1,0 +1,8 @@
+use Rattle.hg_theorems.proofs.Rows.{in_a_row}
+use Rattle.hg_theorems.proofs.holders.servers_in_a_row_have_what_was_answered.Goals as goal
+
+pub returns : goal.returns
+returns g c = λ publishing head. in_a_row g.D.Device.moment g.D.Device.left_since g.D.Device.may_leave publishing head
+    (c.fronts_are_recovered.ensures publishing head) (c.what_a_client_saw_done_is_recovered.ensures publishing head)
+    c.a_front_of_records_runs.ensures.split c.a_front_of_records_runs.ensures.joined
+    c.records_lead_to_one_repository.ensures
