@@ -17,7 +17,8 @@ use crate::host::{HostFile, device_error};
 use crate::names::StoreFolder;
 use crate::place::create_file;
 use crate::placed::{Access, PlacedFile, hold, open_plain, path_in, sync_folder};
-use crate::start::{Opened, StoreFault, open_file};
+use crate::reading::{Opening, open_file};
+use crate::start::{Opened, StoreFault};
 use std::alloc::Allocator;
 use std::fs::{File, Files};
 use std::io::Read;
@@ -79,20 +80,34 @@ pub fn new_identity<R: Files<File = File>>(files: &R) -> Result<[u8; 16], StoreF
     }
 }
 
-/// Opens the store in a folder, and holds it against other processes until it is dropped. The folder is synced, since
-/// whoever gave the file its name may have ended before that; where this fails the store is not opened. Then it is
-/// read, its tail is kept in the folder, and it is brought in order, as [`open_file`] does.
+/// Begins to read the store in a folder, and holds it against other processes until it is dropped. The folder is synced,
+/// since whoever gave the file its name may have ended before that; where this fails the store is not opened.
+pub fn begin_store<R: Files<File = File>, A: Allocator + Copy>(
+    alloc: A,
+    folder: &mut StoreFolder<'_, R>,
+    setup: &Setup,
+) -> Result<Opening<HostFile, A>, StoreFault>
+{
+    let file = find(alloc, folder)?;
+    sync_names(folder.files(), alloc, folder.path())?;
+    match Opening::begin(alloc, HostFile::new(file), setup) {
+        Ok(opening) => Ok(opening),
+        Err(left) => Err(left.fault),
+    }
+}
+
+/// Opens the store in a folder, whatever its records are, as [`begin_store`] and [`open_file`] do.
 pub fn open_store<R: Files<File = File>, A: Allocator + Copy>(
     alloc: A,
     folder: &mut StoreFolder<'_, R>,
     setup: &Setup,
-) -> Result<Opened<HostFile, A>, StoreFault>
-    ensures settled { IfOk result (λ opened. IsSettled ⟦<StoreFile<HostFile, A> as Device>⟧.seen
-        ⟦<StoreFile<HostFile, A> as Device>⟧.may_leave (head_for setup.now opened.identity) opened.records opened.log) }
-    ensures found { IfOk result (λ opened. IsFound (head_for setup.now opened.identity) opened.records []
+) -> Result<Opened<HostFile>, StoreFault>
+    ensures settled { IfOk result (λ opened. IsSettled ⟦<StoreFile<HostFile> as Device>⟧.seen
+        ⟦<StoreFile<HostFile> as Device>⟧.may_leave (head_for setup.now opened.identity) opened.records.entries opened.log) }
+    ensures found { IfOk result (λ opened. IsFound (head_for setup.now opened.identity) opened.records.entries []
         (⟦<HostFile as Calls>⟧.history opened.log.device.calls)) }
     ensures err { IfErr result (λ fault. IsOfFolder fault ⊎ ((read : HostFile)
-        × IsUnopened fault setup.now [] (⟦<HostFile as Calls>⟧.history read)
+        × IsUnopened fault setup.now (⟦<HostFile as Calls>⟧.drawn read) [] (⟦<HostFile as Calls>⟧.history read)
         × LosesNothing [] (⟦<HostFile as Calls>⟧.history read) folder.new)) }
     ensures names { MatchResult result (λ _. IsKeptAtMost folder.old folder.new)
         (λ fault. IsLookedFor fault folder.old folder.new) }

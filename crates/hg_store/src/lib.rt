@@ -58,12 +58,14 @@ mod kept;
 pub mod laws;
 mod log;
 mod names;
+mod noted;
 mod numbers;
 mod opening;
 mod pieces;
 mod place;
 mod placed;
 mod read;
+mod reading;
 mod record;
 mod sealed;
 mod start;
@@ -74,8 +76,8 @@ pub use device::{Device, DeviceError};
 pub use entry::{Entry, Stamp, Standing};
 pub use file::StoreFile;
 pub use folder::{
-    create_store, kept_file, make_folder, new_identity, new_store, open_held, open_store,
-    store_file,
+    begin_store, create_store, kept_file, make_folder, new_identity, new_store, open_held,
+    open_store, store_file,
 };
 pub use head::{Head, HeadFault, Setup, Version};
 pub use history::{Call, History};
@@ -83,12 +85,14 @@ pub use host::{HostFile, read_all};
 pub use kept::KeptTail;
 pub use log::Log;
 pub use names::StoreFolder;
+pub use noted::NotedRecords;
 pub use opening::{RecoverFault, recover};
 pub use pieces::{HeadStop, RecordStop, read_head, read_record};
 pub use place::{NewFile, bytes_at_rest, create_file, put_whole};
 pub use placed::PlacedFile;
 pub use read::{Found, ReadFault, read_records};
+pub use reading::{Opening, open_file};
 pub use record::{NoRecord, next_record, put_record};
 pub use sealed::Sealed;
-pub use start::{Opened, StoreFault, Unopened, open_file};
+pub use start::{Opened, StoreFault, Unopened};
 pub use tail::{BATCH_BYTES, BATCH_RECORDS, TailFault, TailKeeper};

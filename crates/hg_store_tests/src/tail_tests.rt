@@ -62,7 +62,7 @@ fn opened(alloc: Global, file: &[u8], calls: usize, fails: bool) -> Result<Came,
     drawer.fails = fails;
     match open_file(alloc, paper, &standard(), &mut drawer) {
         Ok(opened) => Ok(Came {
-            records: Ok(opened.records.len()),
+            records: Ok(opened.stored),
             paper: opened.log.device.into_calls(),
             drawer,
         }),
