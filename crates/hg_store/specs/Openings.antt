@@ -13,7 +13,7 @@ use Rattle.hg_store.specs.Head.{HasHead, IsHead, head_for}
 use Rattle.hg_store.specs.Again.{HasGates}
 use Rattle.hg_store.specs.Records.{IsEnd, IsRecord}
 use Rattle.hg_store.specs.declared.head.Version.TheVariants.{Second}
-use Rattle.hg_store.specs.declared.reading.Opening.{Opening}
+use Rattle.hg_store.specs.declared.front.Opening.{Opening}
 use Rattle.std.specs.List.{AllByRecursion}
 use Rattle.hg_store.specs.Tails.{IsTailRefused}
 

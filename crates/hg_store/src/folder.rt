@@ -2,22 +2,22 @@
 
 ghost use Rattle.std.specs.Prelude.{◌≡◌, ◌⊎◌, [], ◌∷◌, IfErr, IfOk, MatchResult, length};
 ghost use Rattle.hg_store.specs.Calls.{renewed};
-ghost use Rattle.hg_store.specs.Folders.{IsLookedFor, IsMadeAtMost};
+ghost use Rattle.hg_store.specs.Folders.{IsLookedFor, IsMadeAtMost, IsMissedFor};
 ghost use Rattle.hg_store.specs.Head.{head_for};
 ghost use Rattle.hg_store.specs.Log.{IsSettled};
-ghost use Rattle.hg_store.specs.Openings.{IsFound, IsOfFolder, IsUnopened};
+ghost use Rattle.hg_store.specs.Openings.{HasRead, IsFound, IsOfFolder, IsUnopened};
 ghost use Rattle.hg_store.specs.Tails.{IsKeptAtMost, LosesNothing};
 
 use crate::calls::Calls;
 use crate::device::{Device, DeviceError};
 use crate::file::StoreFile;
+use crate::front::{Opening, open_file};
 use crate::head::{Head, Setup};
 use crate::history::Call;
 use crate::host::{HostFile, device_error};
 use crate::names::StoreFolder;
 use crate::place::create_file;
 use crate::placed::{Access, PlacedFile, hold, open_plain, path_in, sync_folder};
-use crate::reading::{Opening, open_file};
 use crate::start::{Opened, StoreFault};
 use std::alloc::Allocator;
 use std::fs::{File, Files};
@@ -87,6 +87,14 @@ pub fn begin_store<R: Files<File = File>, A: Allocator + Copy>(
     folder: &mut StoreFolder<'_, R>,
     setup: &Setup,
 ) -> Result<Opening<HostFile, A>, StoreFault>
+    ensures read { IfOk result (HasRead ⟦<HostFile as Calls>⟧.drawn setup.now []) }
+    ensures none { IfOk result (λ opening. (opening.records.entries ≡ [])
+        × (⟦<HostFile as Calls>⟧.history opening.calls ≡ [])) }
+    ensures err { IfErr result (λ fault. IsOfFolder fault ⊎ ((read : HostFile)
+        × (⟦<HostFile as Calls>⟧.history read ≡ [])
+        × IsUnopened fault setup.now (⟦<HostFile as Calls>⟧.drawn read) [] (⟦<HostFile as Calls>⟧.history read))) }
+    ensures names { MatchResult result (λ _. folder.new ≡ folder.old)
+        (λ fault. IsMissedFor fault folder.old folder.new) }
 {
     let file = find(alloc, folder)?;
     sync_names(folder.files(), alloc, folder.path())?;
@@ -139,7 +147,7 @@ fn find<R: Files<File = File>, A: Allocator + Copy>(
 ) -> Result<File, StoreFault>
     ensures err { IfErr result IsOfFolder }
     ensures names { MatchResult result (λ _. folder.new ≡ folder.old)
-        (λ fault. IsLookedFor fault folder.old folder.new) }
+        (λ fault. IsMissedFor fault folder.old folder.new) }
 {
     match open_held(folder.files(), alloc, folder.path()) {
         Ok(file) => Ok(file),

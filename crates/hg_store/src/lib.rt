@@ -50,6 +50,7 @@ mod device;
 mod entry;
 mod file;
 mod folder;
+mod front;
 mod gates;
 mod head;
 mod history;
@@ -65,7 +66,6 @@ mod pieces;
 mod place;
 mod placed;
 mod read;
-mod reading;
 mod record;
 mod sealed;
 mod start;
@@ -79,6 +79,7 @@ pub use folder::{
     begin_store, create_store, kept_file, make_folder, new_identity, new_store, open_held,
     open_store, store_file,
 };
+pub use front::{Opening, open_file};
 pub use head::{Head, HeadFault, Setup, Version};
 pub use history::{Call, History};
 pub use host::{HostFile, read_all};
@@ -91,7 +92,6 @@ pub use pieces::{HeadStop, RecordStop, read_head, read_record};
 pub use place::{NewFile, bytes_at_rest, create_file, put_whole};
 pub use placed::PlacedFile;
 pub use read::{Found, ReadFault, read_records};
-pub use reading::{Opening, open_file};
 pub use record::{NoRecord, next_record, put_record};
 pub use sealed::Sealed;
 pub use start::{Opened, StoreFault, Unopened};

@@ -127,18 +127,14 @@ pub fn recover<A: Allocator + Copy, D: Device, K: TailKeeper>(
     ) {
         return Err(RecoverFault::Tail(fault));
     }
-    shut_gate(device, found.end, tail.len())?;
+    shut_gate(device, found.end, bytes.len())?;
     Ok(found)
 }
 
-/// Leaves a shut gate at the end of the records, and nothing after it, where so many bytes stand behind them.
-pub(crate) fn shut_gate<D: Device>(
-    device: &mut D,
-    end: usize,
-    behind: usize,
-) -> Result<(), DeviceError>
-    requires len { end + behind ≡ length (D.seen device.old) }
-    requires place { end + 1 < 2 ^ 64 }
+/// Leaves a shut gate at the end of the records, and nothing after it.
+pub(crate) fn shut_gate<D: Device>(device: &mut D, end: usize, len: usize) -> Result<(), DeviceError>
+    requires len { len ≡ length (D.seen device.old) }
+    requires end { end ≤ len }
     ensures at_rest { (head : Head) (records : List AnyEntry) → EndsAt head records end (D.seen device.old) →
         OnOk result (D.seen device.new ≡ at_rest head records) }
     ensures durable { OnOk result (Only (D.seen device.new) (D.may_leave device.new)) }
@@ -150,7 +146,7 @@ pub(crate) fn shut_gate<D: Device>(
     ensures failed { IsErrOf result DeviceError.Failed → D.faults device.old < D.faults device.new }
     ensures full { IsErrOf result DeviceError.Full → ⊥ }
 {
-    if behind > 0 {
+    if end < len {
         return cut_synced(device, end + 1);
     }
     put_synced(device, end, &[SHUT])

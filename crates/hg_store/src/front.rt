@@ -1,27 +1,34 @@
 //! A store in a file that is opened for more records: it is read from the front, one record after the other, in memory
 //! for one, and changed once all of it was read.
 
-ghost use Rattle.std.specs.Prelude.{◌≡◌, ◌×◌, ◌≤◌, ◌<◌, ◌+◌, ◌∷◌, ◌++◌, ◌⊎◌, [], List, ℕ, IfErr, IfOk, OnOk, drop, length};
+ghost use Rattle.std.specs.Prelude.{◌≡◌, ◌≤◌, ◌<◌, ◌+◌, ◌∷◌, ◌++◌, ◌⊎◌, [], List, ℕ, IfErr, IfOk, OnOk, drop, length};
+ghost use Rattle.std.specs.Prelude.{MatchResult, true};
 ghost use Rattle.hg_store.specs.Again.{AreOpenedAfter};
+ghost use Rattle.hg_store.specs.Calls.{Continue, Event, began};
 ghost use Rattle.hg_store.specs.Entries.{Entry as AnyEntry};
+ghost use Rattle.hg_store.specs.Files.{digest_behind};
 ghost use Rattle.hg_store.specs.Head.{IsHead, head_bytes, head_for};
-ghost use Rattle.hg_store.specs.Log.{IsSettled};
+ghost use Rattle.hg_store.specs.Log.{IsSettled, IsSettledAt};
 ghost use Rattle.hg_store.specs.Openings.{HasEnded, HasNext, HasRead, IsFound, IsUnopened};
+ghost use Rattle.hg_store.specs.Records.{IsRecord, frame};
 ghost use Rattle.hg_store.specs.Tails.{IsKeptAtMost, LosesNothing};
+ghost use Rattle.hg_store.specs.code.Batches.{IsWhole};
+ghost use Rattle.hg_store.specs.declared.head.Head.{Head as AnyHead};
 ghost use Rattle.hg_store.specs.declared.head.Setup.{Setup as AnySetup};
+ghost use Rattle.hg_store.specs.declared.head.Version.TheVariants.{Second};
 
 use crate::calls::Calls;
 use crate::device::{Device, DeviceError};
 use crate::file::StoreFile;
 use crate::gates::{add_gate, open_again};
-use crate::head::{FIRST, Head, HeadFault, IDENTITY, Setup, Version, read_byte};
+use crate::head::{FIRST, Head, IDENTITY, OPEN, Setup, Version, read_byte};
 use crate::log::{Log, MOST_BYTES};
 use crate::noted::NotedRecords;
 use crate::numbers::{SECOND, read_numbers};
 use crate::opening::{RecoverFault, shut_gate};
 use crate::pieces::is_begun;
 use crate::read::ReadFault;
-use crate::record::{DIGEST, NoRecord, SHUT, next_record};
+use crate::record::{DIGEST, NoRecord, next_record};
 use crate::start::{Opened, StoreFault, Unopened, left_over};
 use crate::tail::{TailKeeper, keep_tail};
 use sha1::Sha1;
@@ -164,17 +171,17 @@ impl<C: Calls, A: Allocator + Copy> Opening<C, A> {
         } = self;
         let mut calls = calls;
         let mut tail = frame;
-        if let Err(fault) = read_tail(alloc, &mut calls, &mut tail, keeper, &digest, end, stored) {
-            return Err(left_over(fault, calls));
+        let len = match read_rest(&mut calls, end, &mut tail) {
+            Ok(len) => len,
+            Err(error) => return Err(left_over(StoreFault::from(error), calls)),
+        };
+        if let Err(fault) = keep_tail(alloc, keeper, Version::Second, &digest, stored, &tail) {
+            return Err(left_over(StoreFault::from(RecoverFault::Tail(fault)), calls));
         }
-        calls.note_read();
-        let mut device = StoreFile::of(calls);
-        if let Err(error) = shut_gate(&mut device, end, tail.len()) {
-            return Err(left_over(StoreFault::from(error), device.into_calls()));
-        }
-        if let Err(error) = open_again(&mut device, gates.as_slice()) {
-            return Err(left_over(StoreFault::from(error), device.into_calls()));
-        }
+        let device = match bring_in_order(calls, end, len, gates.as_slice()) {
+            Ok(device) => device,
+            Err(left) => return Err(left),
+        };
         let log = Log {
             device,
             end,
@@ -189,25 +196,67 @@ impl<C: Calls, A: Allocator + Copy> Opening<C, A> {
     }
 }
 
-/// Reads what stands after the records of a store, behind what was read of it, and keeps it.
-fn read_tail<C: Calls, K: TailKeeper, A: Allocator + Copy>(
-    alloc: A,
+/// Reads a file to its end, behind what was read of it after its records, which end there. Gives its length.
+fn read_rest<C: Calls, A: Allocator>(
     calls: &mut C,
-    tail: &mut Vec<u8, A>,
-    keeper: &mut K,
-    digest: &[u8; 20],
     end: usize,
-    stored: usize,
-) -> Result<(), StoreFault>
+    tail: &mut Vec<u8, A>,
+) -> Result<usize, DeviceError>
+    ensures same { C.Calls.history calls.new ≡ C.Calls.history calls.old }
+    ensures read { OnOk result ((more : List ℕ) × (tail.new.items ≡ tail.old.items ++ more)
+        × (C.Calls.drawn calls.new ≡ C.Calls.drawn calls.old ++ more)) }
+    ensures over { OnOk result (C.Calls.is_over calls.new ≡ true) }
+    ensures len { IfOk result (λ len. len ≡ end + length tail.new.items) }
 {
-    if end >= MOST_BYTES {
-        return Err(StoreFault::from(DeviceError::Full));
+    let before = tail.len();
+    calls.read_on(MOST_BYTES, tail)?;
+    if tail.len() - before >= MOST_BYTES {
+        return Err(DeviceError::Full);
     }
-    calls.read_on(usize::MAX, tail)?;
-    match keep_tail(alloc, keeper, Version::Second, digest, stored, tail) {
-        Ok(()) => Ok(()),
-        Err(fault) => Err(StoreFault::Recover(RecoverFault::Tail(fault))),
+    match end.checked_add(tail.len()) {
+        Some(len) => Ok(len),
+        None => Err(DeviceError::Full),
     }
+}
+
+/// Brings the end of a store in order, all of which was read, and whose records end there: leaves a shut gate there and
+/// nothing after it, and writes the gates of the last records once more.
+fn bring_in_order<C: Calls>(
+    calls: C,
+    end: usize,
+    len: usize,
+    gates: &[usize],
+) -> Result<StoreFile<C>, Unopened<C>>
+    requires over { C.Calls.is_over calls ≡ true }
+    requires len { len ≡ length (C.Calls.drawn calls) }
+    requires end { end ≤ len }
+    ensures settled { (head : AnyHead) (records : List AnyEntry) →
+        IsWhole head records end gates.now (C.Calls.drawn calls) →
+        IfOk result (λ device. IsSettledAt ⟦<StoreFile<C> as Device>⟧.seen ⟦<StoreFile<C> as Device>⟧.may_leave head
+        records device end (digest_behind head records)) }
+    ensures found { (head : AnyHead) (records : List AnyEntry) →
+        IsWhole head records end gates.now (C.Calls.drawn calls) →
+        IfOk result (λ device. IsFound head records (C.Calls.history calls) (C.Calls.history device.calls)) }
+    ensures again { (head : AnyHead) (records : List AnyEntry) →
+        IsWhole head records end gates.now (C.Calls.drawn calls) →
+        IfOk result (λ device. AreOpenedAfter head records (C.Calls.history calls) (C.Calls.history device.calls)) }
+    ensures err { (head : AnyHead) (records : List AnyEntry) →
+        IsWhole head records end gates.now (C.Calls.drawn calls) → IfErr result (λ left. (setup : AnySetup)
+        (bytes : List ℕ) → IsUnopened left.fault setup bytes (C.Calls.history calls) (C.Calls.history left.calls)) }
+    ensures more { MatchResult result
+        (λ device. Continue (began (C.Calls.drawn calls) ∷ C.Calls.history calls) (C.Calls.history device.calls))
+        (λ left. Continue (began (C.Calls.drawn calls) ∷ C.Calls.history calls) (C.Calls.history left.calls)) }
+{
+    let mut calls = calls;
+    calls.note_read();
+    let mut device = StoreFile::of(calls);
+    if let Err(error) = shut_gate(&mut device, end, len) {
+        return Err(left_over(StoreFault::from(error), device.into_calls()));
+    }
+    if let Err(error) = open_again(&mut device, gates) {
+        return Err(left_over(StoreFault::from(error), device.into_calls()));
+    }
+    Ok(device)
 }
 
 /// Begins a file, and reads its head, which has to be that of a server that is set up in this way. Gives the name of
@@ -217,6 +266,13 @@ fn begin_front<C: Calls, A: Allocator>(
     setup: &Setup,
     front: &mut Vec<u8, A>,
 ) -> Result<[u8; 16], StoreFault>
+    requires { front.old.items ≡ [] }
+    ensures head { IfOk result (λ identity. IsHead (head_for setup.now identity)
+        × (front.new.items ≡ head_bytes (head_for setup.now identity))) }
+    ensures read { OnOk result (C.Calls.drawn calls.new ≡ front.new.items) }
+    ensures same { C.Calls.history calls.new ≡ C.Calls.history calls.old }
+    ensures err { IfErr result (λ fault. (events : List Event) →
+        IsUnopened fault setup.now (C.Calls.drawn calls.new) events events) }
 {
     calls.begin()?;
     let head = read_front(calls, front)?;
@@ -237,6 +293,13 @@ fn read_front<C: Calls, A: Allocator>(
     calls: &mut C,
     front: &mut Vec<u8, A>,
 ) -> Result<Head, StoreFault>
+    requires empty { front.old.items ≡ [] }
+    requires begun { C.Calls.drawn calls.old ≡ [] }
+    ensures head { IfOk result (λ head. IsHead head × (front.new.items ≡ head_bytes head)) }
+    ensures read { OnOk result (C.Calls.drawn calls.new ≡ front.new.items) }
+    ensures same { C.Calls.history calls.new ≡ C.Calls.history calls.old }
+    ensures err { IfErr result (λ fault. (setup : AnySetup) (events : List Event) →
+        IsUnopened fault setup (C.Calls.drawn calls.new) events events) }
 {
     calls.read_on(FIRST, front)?;
     let fault = match Head::read(front) {
@@ -258,6 +321,10 @@ fn read_frame<C: Calls, A: Allocator>(
     calls: &mut C,
     frame: &mut Vec<u8, A>,
 ) -> Result<(), DeviceError>
+    ensures read { OnOk result (C.Calls.drawn calls.new ≡ C.Calls.drawn calls.old ++ frame.new.items) }
+    ensures same { C.Calls.history calls.new ≡ C.Calls.history calls.old }
+    ensures whole { OnOk result ((before after : List ℕ) (found : AnyEntry) → IsRecord Second found →
+        frame.new.items ≡ frame Second before found ++ after → after ≡ []) }
 {
     frame.clear();
     calls.read_on(1 + SECOND, frame)?;
@@ -267,12 +334,14 @@ fn read_frame<C: Calls, A: Allocator>(
 /// How many bytes a record has that begins with these, its gate and its numbers, behind them. There are none where no
 /// record begins so.
 fn size_behind(front: &[u8]) -> usize
+    ensures { (before more after : List ℕ) (found : AnyEntry) → IsRecord Second found → length front.now ≤ 14 →
+        length more ≤ result → front.now ++ more ≡ frame Second before found ++ after → after ≡ [] }
 {
     if front.is_empty() {
         return 0;
     }
     let (gate, behind) = read_byte(front);
-    if gate == SHUT {
+    if gate != OPEN {
         return 0;
     }
     match read_numbers(Version::Second, behind) {
@@ -315,6 +384,13 @@ pub fn open_file<C: Calls, K: TailKeeper, A: Allocator + Copy>(
 
 /// Reads all records of a store.
 fn pass_records<C: Calls, A: Allocator + Copy>(opening: &mut Opening<C, A>) -> Result<(), StoreFault>
+    requires { (setup : AnySetup) × HasRead C.Calls.drawn setup [] opening.old }
+    ensures read { (setup : AnySetup) → HasRead C.Calls.drawn setup [] opening.old →
+        OnOk result (HasEnded C.Calls.drawn setup opening.new) }
+    ensures err { (setup : AnySetup) → HasRead C.Calls.drawn setup [] opening.old →
+        IfErr result (λ fault. IsUnopened fault setup (C.Calls.drawn opening.new.calls)
+        (C.Calls.history opening.old.calls) (C.Calls.history opening.new.calls)) }
+    ensures same { C.Calls.history opening.new.calls ≡ C.Calls.history opening.old.calls }
 {
     for _ in 0..usize::MAX {
         if !opening.read_next()? {
