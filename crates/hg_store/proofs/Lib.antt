@@ -1,5 +1,6 @@
 mod Frames
 mod Heads
+mod OneByOne
 mod OneReading
 mod NoDamage
 mod Fronts

@@ -10,7 +10,7 @@ ghost use Rattle.hg_store.specs.Files.{digest_behind};
 ghost use Rattle.hg_store.specs.Head.{IsHead, head_bytes, head_for};
 ghost use Rattle.hg_store.specs.Log.{IsSettled, IsSettledAt};
 ghost use Rattle.hg_store.specs.Openings.{HasEnded, HasNext, HasRead, IsFound, IsUnopened};
-ghost use Rattle.hg_store.specs.Records.{IsRecord, frame};
+ghost use Rattle.hg_store.specs.Records.{IsEnd, IsRecord, frame};
 ghost use Rattle.hg_store.specs.Tails.{IsKeptAtMost, LosesNothing};
 ghost use Rattle.hg_store.specs.code.Batches.{IsWhole};
 ghost use Rattle.hg_store.specs.declared.head.Head.{Head as AnyHead};
@@ -207,11 +207,16 @@ fn read_rest<C: Calls, A: Allocator>(
         × (C.Calls.drawn calls.new ≡ C.Calls.drawn calls.old ++ more)) }
     ensures over { OnOk result (C.Calls.is_over calls.new ≡ true) }
     ensures len { IfOk result (λ len. len ≡ end + length tail.new.items) }
+    ensures ends { IsEnd tail.old.items → OnOk result (IsEnd tail.new.items) }
 {
     let before = tail.len();
     calls.read_on(MOST_BYTES, tail)?;
     if tail.len() - before >= MOST_BYTES {
         return Err(DeviceError::Full);
+    }
+    // where its end was met before, that is its end still
+    if before == 0 && !tail.is_empty() {
+        return Err(DeviceError::Failed);
     }
     match end.checked_add(tail.len()) {
         Some(len) => Ok(len),
@@ -243,7 +248,8 @@ fn bring_in_order<C: Calls>(
     ensures err { (head : AnyHead) (records : List AnyEntry) →
         IsWhole head records end gates.now (C.Calls.drawn calls) → IfErr result (λ left. (setup : AnySetup)
         (bytes : List ℕ) → IsUnopened left.fault setup bytes (C.Calls.history calls) (C.Calls.history left.calls)) }
-    ensures more { MatchResult result
+    ensures more { (head : AnyHead) (records : List AnyEntry) →
+        IsWhole head records end gates.now (C.Calls.drawn calls) → MatchResult result
         (λ device. Continue (began (C.Calls.drawn calls) ∷ C.Calls.history calls) (C.Calls.history device.calls))
         (λ left. Continue (began (C.Calls.drawn calls) ∷ C.Calls.history calls) (C.Calls.history left.calls)) }
 {
@@ -319,16 +325,16 @@ fn read_front<C: Calls, A: Allocator>(
 /// Reads a record into the buffer, in the place of what stands in it, or what stands in the file in the place of one.
 fn read_frame<C: Calls, A: Allocator>(
     calls: &mut C,
-    frame: &mut Vec<u8, A>,
+    bytes: &mut Vec<u8, A>,
 ) -> Result<(), DeviceError>
-    ensures read { OnOk result (C.Calls.drawn calls.new ≡ C.Calls.drawn calls.old ++ frame.new.items) }
+    ensures read { OnOk result (C.Calls.drawn calls.new ≡ C.Calls.drawn calls.old ++ bytes.new.items) }
     ensures same { C.Calls.history calls.new ≡ C.Calls.history calls.old }
     ensures whole { OnOk result ((before after : List ℕ) (found : AnyEntry) → IsRecord Second found →
-        frame.new.items ≡ frame Second before found ++ after → after ≡ []) }
+        bytes.new.items ≡ frame Second before found ++ after → after ≡ []) }
 {
-    frame.clear();
-    calls.read_on(1 + SECOND, frame)?;
-    calls.read_on(size_behind(frame), frame)
+    bytes.clear();
+    calls.read_on(1 + SECOND, bytes)?;
+    calls.read_on(size_behind(bytes), bytes)
 }
 
 /// How many bytes a record has that begins with these, its gate and its numbers, behind them. There are none where no

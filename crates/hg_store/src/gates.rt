@@ -1,6 +1,6 @@
 //! The gates of the last records, which are written once more before a store is served.
 
-ghost use Rattle.std.specs.Prelude.{◌≡◌, ◌<◌, ◌+◌, ◌++◌, ◌∷◌, [], List, OnOk, length};
+ghost use Rattle.std.specs.Prelude.{◌≡◌, ◌++◌, ◌∷◌, [], List, ℕ, OnOk, length};
 ghost use Rattle.hg_store.specs.Again.{AreOpenedAgain, HasGates, IsStill};
 ghost use Rattle.hg_store.specs.Entries.{Entry as AnyEntry};
 ghost use Rattle.hg_store.specs.Files.{stored};
