@@ -1,14 +1,13 @@
 //! A store that is opened, and the repository that its records lead to.
 
-ghost use Rattle.std.specs.Prelude.{◌≡◌, ◌⊎◌, [], IfErr, IfOk, IsErrOf};
+ghost use Rattle.std.specs.Prelude.{◌≡◌, ◌⊎◌, [], IfErr, IfOk, IsErrOf, MatchResult, OnOk};
 ghost use Rattle.hg_recovery.specs.declared.restore.RestoreFault.{RestoreFault as AnyRestoreFault};
-ghost use Rattle.hg_store.specs.Folders.{IsMadeWhereNone};
 ghost use Rattle.hg_store.specs.Openings.{HasEnded, HasRead, IsFound, IsOfFolder, IsUnopened};
 ghost use Rattle.hg_store.specs.Tails.{LosesNothing, tails_in};
 ghost use Rattle.hg_store.specs.declared.start.StoreFault.{StoreFault as AnyStoreFault};
 ghost use Rattle.hg_recovery.specs.Faults.{status_of, whole_before_torn};
-ghost use Rattle.hg_recovery.specs.Opening.{empty_repository, head_of, setup_for, AreNamesIf, IsOpened, IsRecovered};
-ghost use Rattle.hg_recovery.specs.Opening.{StopsRead};
+ghost use Rattle.hg_recovery.specs.Opening.{empty_repository, head_of, setup_for, AreNamesIf, IsBegunIf, IsOpened};
+ghost use Rattle.hg_recovery.specs.Opening.{IsRecovered, StopsRead};
 ghost use Rattle.hg_types.specs.Limits.{IsAllowed};
 ghost use Rattle.hg_recovery.specs.declared.opening.OpeningFault.TheVariants.{Restore as unrestored, Store as no_store};
 
@@ -141,12 +140,16 @@ pub fn recover_store<R: Files<File = File>>(
 {
     let mut opening = begin_in(alloc, folder, &setup_for(publishing), if_missing)?;
     let repo = run_records(alloc, state, publishing, &mut opening)?;
+    let opened = match opening.finish(alloc, folder) {
+        Ok(opened) => opened,
+        Err(left) => return Err(OpeningFault::Store(left.fault)),
+    };
     let Opened {
         log,
         identity,
         stored,
         records,
-    } = finish_in(alloc, folder, opening)?;
+    } = opened;
     Ok(Recovered {
         publishing,
         identity,
@@ -190,6 +193,15 @@ fn begin_in<R: Files<File = File>>(
     setup: &Setup,
     if_missing: IfMissing,
 ) -> Result<Opening<HostFile>, StoreFault>
+    ensures read { IfOk result (HasRead ⟦<HostFile as Calls>⟧.drawn setup.now []) }
+    ensures none { IfOk result (λ opening. (opening.records.entries ≡ [])
+        × (⟦<HostFile as Calls>⟧.history opening.calls ≡ [])) }
+    ensures err { IfErr result (λ fault. IsOfFolder fault ⊎ ((read : HostFile)
+        × (⟦<HostFile as Calls>⟧.history read ≡ [])
+        × IsUnopened fault setup.now (⟦<HostFile as Calls>⟧.drawn read) [] (⟦<HostFile as Calls>⟧.history read))) }
+    ensures kept { tails_in folder.new ≡ tails_in folder.old }
+    ensures names { MatchResult result (λ _. IsBegunIf if_missing folder.old folder.new)
+        (λ _. AreNamesIf if_missing folder.old folder.new) }
 {
     match if_missing {
         IfMissing::Create => begin_or_create(alloc, folder, setup),
@@ -203,6 +215,15 @@ fn begin_or_create<R: Files<File = File>>(
     folder: &mut StoreFolder<'_, R>,
     setup: &Setup,
 ) -> Result<Opening<HostFile>, StoreFault>
+    ensures read { IfOk result (HasRead ⟦<HostFile as Calls>⟧.drawn setup.now []) }
+    ensures none { IfOk result (λ opening. (opening.records.entries ≡ [])
+        × (⟦<HostFile as Calls>⟧.history opening.calls ≡ [])) }
+    ensures err { IfErr result (λ fault. IsOfFolder fault ⊎ ((read : HostFile)
+        × (⟦<HostFile as Calls>⟧.history read ≡ [])
+        × IsUnopened fault setup.now (⟦<HostFile as Calls>⟧.drawn read) [] (⟦<HostFile as Calls>⟧.history read))) }
+    ensures kept { tails_in folder.new ≡ tails_in folder.old }
+    ensures names { MatchResult result (λ _. IsBegunIf IfMissing.Create folder.old folder.new)
+        (λ _. AreNamesIf IfMissing.Create folder.old folder.new) }
 {
     match begin_store(alloc, folder, setup) {
         Err(StoreFault::Missing) => {
@@ -210,19 +231,6 @@ fn begin_or_create<R: Files<File = File>>(
             begin_store(alloc, folder, setup)
         }
         begun => begun,
-    }
-}
-
-/// Opens the store of a folder, all records of which were read.
-fn finish_in<R: Files<File = File>>(
-    alloc: Global,
-    folder: &mut StoreFolder<'_, R>,
-    opening: Opening<HostFile>,
-) -> Result<Opened<HostFile>, StoreFault>
-{
-    match opening.finish(alloc, folder) {
-        Ok(opened) => Ok(opened),
-        Err(left) => Err(left.fault),
     }
 }
 
@@ -234,6 +242,17 @@ fn run_records(
     publishing: bool,
     opening: &mut Opening<HostFile>,
 ) -> Result<Repo, OpeningFault>
+    requires read { HasRead ⟦<HostFile as Calls>⟧.drawn (setup_for publishing) [] opening.old }
+    requires none { opening.old.records.entries ≡ [] }
+    ensures ended { OnOk result (HasEnded ⟦<HostFile as Calls>⟧.drawn (setup_for publishing) opening.new) }
+    ensures ran { IfOk result (λ repo. IsRecovered publishing (head_of publishing opening.new.identity)
+        opening.new.records.entries repo) }
+    ensures stops { (fault : AnyRestoreFault) → IsErrOf result (unrestored fault) →
+        StopsRead Global publishing (⟦<HostFile as Calls>⟧.drawn opening.new.calls) fault }
+    ensures unopened { (fault : AnyStoreFault) → IsErrOf result (no_store fault) →
+        IsUnopened fault (setup_for publishing) (⟦<HostFile as Calls>⟧.drawn opening.new.calls)
+        (⟦<HostFile as Calls>⟧.history opening.old.calls) (⟦<HostFile as Calls>⟧.history opening.new.calls) }
+    ensures same { ⟦<HostFile as Calls>⟧.history opening.new.calls ≡ ⟦<HostFile as Calls>⟧.history opening.old.calls }
 {
     let mut repo = empty_repository(alloc, state, &setup_for(publishing));
     for place in 0..usize::MAX {

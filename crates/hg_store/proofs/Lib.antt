@@ -13,6 +13,7 @@ mod Staying
 mod Repair
 mod FileSteps
 mod Opens
+mod Brought
 mod AtRest
 mod Tails
 mod Again

@@ -210,18 +210,23 @@ fn read_rest<C: Calls, A: Allocator>(
     ensures ends { IsEnd tail.old.items → OnOk result (IsEnd tail.new.items) }
 {
     let before = tail.len();
-    calls.read_on(MOST_BYTES, tail)?;
-    if tail.len() - before >= MOST_BYTES {
-        return Err(DeviceError::Full);
-    }
-    // where its end was met before, that is its end still
-    if before == 0 && !tail.is_empty() {
+    let room = room_behind(before);
+    calls.read_on(room, tail)?;
+    if tail.len() - before >= room {
         return Err(DeviceError::Failed);
     }
     match end.checked_add(tail.len()) {
         Some(len) => Ok(len),
         None => Err(DeviceError::Full),
     }
+}
+
+/// How many bytes a file has at most behind what stands after its records. Where that is none its end was met, and is
+/// its end still.
+fn room_behind(held: usize) -> usize
+    ensures { held ≡ 0 → result ≡ 1 }
+{
+    if held == 0 { 1 } else { MOST_BYTES }
 }
 
 /// Brings the end of a store in order, all of which was read, and whose records end there: leaves a shut gate there and
