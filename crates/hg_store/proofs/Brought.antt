@@ -1,12 +1,19 @@
 -- A store all of which was read, while its end is brought in order.
-use Rattle.std.proofs.Common.{◌≡◌, ◌∙◌, ℕ, List, ◌∷◌, ap, refl, subst, sym}
+use Rattle.std.proofs.Common.{◌≡◌, ℕ, List, ◌∷◌, ◌++◌, ap, inl, length, refl, subst, sym}
+use Rattle.std.specs.List.{AllByRecursion}
+use Rattle.hg_store.specs.Again.{HasGates}
 use Rattle.hg_store.specs.Calls.{Event, began, state_of}
 use Rattle.hg_store.specs.Device.{Only}
 use Rattle.hg_store.specs.Entries.{Entry}
-use Rattle.hg_store.specs.Files.{StandsFor, digest_behind}
+use Rattle.hg_store.specs.Files.{StandsFor, digest_behind, stored}
+use Rattle.hg_store.specs.Head.{IsHead, head_for}
 use Rattle.hg_store.specs.Log.{IsSettledAt, at_rest}
+use Rattle.hg_store.specs.Records.{IsEnd, IsRecord}
 use Rattle.hg_store.specs.code.Batches.{EndsAt, IsWhole}
 use Rattle.hg_store.specs.declared.head.Head.{Head}
+use Rattle.hg_store.specs.declared.head.Setup.{Setup}
+use Rattle.hg_store.specs.declared.head.Version.TheVariants.{Second}
+use Rattle.hg_store.proofs.OneByOne.{spelled_more, store_of}
 use Rattle.hg_store.proofs.Repair.{ends_as}
 
 module _ (bytes : List ℕ) (before at_first : List Event) (read : at_first ≡ began bytes ∷ before) (head : Head)
@@ -38,3 +45,27 @@ module _ (bytes : List ℕ) (before at_first : List Event) (read : at_first ≡ 
     chained = refl;
     durable = durable;
   }
+
+-- a store of version 2 that was read to its end is whole
+pub whole_of : (setup : Setup) (identity : List ℕ) (records : List Entry) (bytes old more tail grown : List ℕ) (end : ℕ)
+    (places gates : List ℕ) → IsHead (head_for setup identity) → AllByRecursion (IsRecord Second) records
+    → bytes ≡ stored (head_for setup identity) records ++ old → tail ≡ old ++ more → grown ≡ bytes ++ more → IsEnd tail
+    → end ≡ length (stored (head_for setup identity) records) → gates ≡ places
+    → HasGates (head_for setup identity) records places
+    → IsWhole (head_for setup identity) records end gates grown
+whole_of setup identity records bytes old more tail grown end places gates allowed each is tail_is grown_is ends place
+    same kept =
+    let head : Head = head_for setup identity in
+    record {
+      version = refl;
+      ends = record {
+        stands = (
+          tail,
+          store_of head records grown tail allowed each
+              (spelled_more (stored head records) bytes old more tail grown is tail_is grown_is) (inl ends),
+          ends,
+        );
+        place = place;
+      };
+      kept = subst (HasGates head records) (sym same) kept;
+    }

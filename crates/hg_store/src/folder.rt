@@ -11,7 +11,7 @@ ghost use Rattle.hg_store.specs.Tails.{IsKeptAtMost, LosesNothing};
 use crate::calls::Calls;
 use crate::device::{Device, DeviceError};
 use crate::file::StoreFile;
-use crate::front::{Opening, open_file};
+use crate::front::{Opening, pass_records};
 use crate::head::{Head, Setup};
 use crate::history::Call;
 use crate::host::{HostFile, device_error};
@@ -104,7 +104,7 @@ pub fn begin_store<R: Files<File = File>, A: Allocator + Copy>(
     }
 }
 
-/// Opens the store in a folder, whatever its records are, as [`begin_store`] and [`open_file`] do.
+/// Opens the store in a folder, as [`begin_store`] and [`Opening::finish`] do, whatever its records are.
 pub fn open_store<R: Files<File = File>, A: Allocator + Copy>(
     alloc: A,
     folder: &mut StoreFolder<'_, R>,
@@ -124,9 +124,9 @@ pub fn open_store<R: Files<File = File>, A: Allocator + Copy>(
     ensures tail { IfOk result (λ opened. LosesNothing []
         (⟦<HostFile as Calls>⟧.history opened.log.device.calls) folder.new) }
 {
-    let file = find(alloc, folder)?;
-    sync_names(folder.files(), alloc, folder.path())?;
-    match open_file(alloc, HostFile::new(file), setup, folder) {
+    let mut opening = begin_store(alloc, folder, setup)?;
+    pass_records(&mut opening)?;
+    match opening.finish(alloc, folder) {
         Ok(opened) => Ok(opened),
         Err(left) => Err(left.fault),
     }

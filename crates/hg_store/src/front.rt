@@ -394,7 +394,9 @@ pub fn open_file<C: Calls, K: TailKeeper, A: Allocator + Copy>(
 }
 
 /// Reads all records of a store.
-fn pass_records<C: Calls, A: Allocator + Copy>(opening: &mut Opening<C, A>) -> Result<(), StoreFault>
+pub(crate) fn pass_records<C: Calls, A: Allocator + Copy>(
+    opening: &mut Opening<C, A>,
+) -> Result<(), StoreFault>
     requires { (setup : AnySetup) × HasRead C.Calls.drawn setup [] opening.old }
     ensures read { (setup : AnySetup) → HasRead C.Calls.drawn setup [] opening.old →
         OnOk result (HasEnded C.Calls.drawn setup opening.new) }
