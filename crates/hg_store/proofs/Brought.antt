@@ -1,14 +1,15 @@
 -- A store all of which was read, while its end is brought in order.
-use Rattle.std.proofs.Common.{◌≡◌, ℕ, List, ◌∷◌, ◌++◌, ap, inl, length, refl, subst, sym}
+use Rattle.std.proofs.Common.{◌≡◌, ◌∙◌, ℕ, List, ◌∷◌, ◌++◌, ap, inl, length, refl, subst, sym}
 use Rattle.std.specs.List.{AllByRecursion}
 use Rattle.hg_store.specs.Again.{HasGates}
 use Rattle.hg_store.specs.Calls.{Event, began, state_of}
 use Rattle.hg_store.specs.Device.{Only}
 use Rattle.hg_store.specs.Entries.{Entry}
-use Rattle.hg_store.specs.Files.{StandsFor, digest_behind, stored}
-use Rattle.hg_store.specs.Head.{IsHead, head_for}
+use Rattle.hg_store.specs.Files.{IsStore, StandsFor, digest_behind, stored}
+use Rattle.hg_store.specs.Head.{IsHead, head_for, version_of}
 use Rattle.hg_store.specs.Log.{IsSettledAt, at_rest}
 use Rattle.hg_store.specs.Records.{IsEnd, IsRecord}
+use Rattle.hg_store.specs.Tails.{HidesRecords, IsHidingStore}
 use Rattle.hg_store.specs.code.Batches.{EndsAt, IsWhole}
 use Rattle.hg_store.specs.declared.head.Head.{Head}
 use Rattle.hg_store.specs.declared.head.Setup.{Setup}
@@ -69,3 +70,17 @@ whole_of setup identity records bytes old more tail grown end places gates allow
       };
       kept = subst (HasGates head records) (sym same) kept;
     }
+
+-- more records than one batch holds stand behind those that were read
+pub hiding_of : (head : Head) (records : List Entry) (bytes tail shown digest : List ℕ) (count place : ℕ)
+    → IsStore bytes head records tail → shown ≡ tail → digest ≡ digest_behind head records → place ≡ length records
+    → count ≡ place → HidesRecords (version_of head) digest shown → IsHidingStore bytes count
+hiding_of head records bytes tail shown digest count place store same chained all is hides = record {
+  head = head;
+  records = records;
+  tail = tail;
+  store = store;
+  count = is ∙ all;
+  hides = subst (HidesRecords (version_of head) (digest_behind head records)) same
+      (subst (λ (d : List ℕ). HidesRecords (version_of head) d shown) chained hides);
+}

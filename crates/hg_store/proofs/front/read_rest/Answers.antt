@@ -16,5 +16,5 @@ returns-in-Some-clause-ends g c = λ ends.
       c.len.ensures,
       ap length read.appended,
       length-append c.args.tail.now.items read.more,
-      c.if-len-before-ge-room.false,
+      c.if-len-before.false,
     ))
