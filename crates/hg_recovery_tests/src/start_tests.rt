@@ -5,8 +5,9 @@ ghost use Rattle.std.specs.List.{AllByRecursion};
 ghost use Rattle.hg_store.specs.Records.{IsSized};
 
 use crate::tests::{ONE, TWO, UNKNOWN};
+use hg_help_store_tests::folder::open_store;
 use hg_recovery::{IfMissing, OpeningFault, RestoreFault, recover_store};
-use hg_store::{Sealed, Setup, Stamp, StoreFault, StoreFolder, create_store, open_store};
+use hg_store::{Sealed, Setup, Stamp, StoreFault, StoreFolder, create_store};
 use hg_types::{Limits, NoMemory, Seq};
 use std::alloc::Global;
 use std::fs;

@@ -52,13 +52,15 @@ abbrev pub bytes_in : List Event → List ℕ
 bytes_in [] = []
 bytes_in (piece ∷ earlier) = bytes_in earlier ++ piece.2
 
--- A file gave so many bytes more than were drawn from it, or fewer, where its end was met. They were appended to others.
+-- A file gave so many bytes more than were drawn from it, or fewer, and then its end was met. They were appended to
+-- others.
 pub record ReadsOn (count : ℕ) (bytes grown drawn drew : List ℕ) (is_over : Bool) : Type 0 where
   pub more : List ℕ
   pub appended : grown ≡ bytes ++ more
   pub came : drew ≡ drawn ++ more
   pub few : length more ≤ count
   pub short : length more < count → is_over ≡ true
+  pub full : length more ≡ count → is_over ≡ false
 
 -- What is known of a file.
 pub record FileState : Type 0 where

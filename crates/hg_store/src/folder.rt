@@ -2,23 +2,19 @@
 
 ghost use Rattle.std.specs.Prelude.{◌≡◌, ◌⊎◌, [], ◌∷◌, IfErr, IfOk, MatchResult, length};
 ghost use Rattle.hg_store.specs.Calls.{renewed};
-ghost use Rattle.hg_store.specs.Folders.{IsLookedFor, IsMadeAtMost, IsMissedFor};
-ghost use Rattle.hg_store.specs.Head.{head_for};
-ghost use Rattle.hg_store.specs.Log.{IsSettled};
-ghost use Rattle.hg_store.specs.Openings.{HasRead, IsFound, IsOfFolder, IsUnopened};
-ghost use Rattle.hg_store.specs.Tails.{IsKeptAtMost, LosesNothing};
+ghost use Rattle.hg_store.specs.Folders.{IsMadeAtMost, IsMissedFor};
+ghost use Rattle.hg_store.specs.Openings.{HasRead, IsOfFolder, IsUnopened};
 
 use crate::calls::Calls;
-use crate::device::{Device, DeviceError};
-use crate::file::StoreFile;
-use crate::front::{Opening, pass_records};
+use crate::device::DeviceError;
+use crate::front::Opening;
 use crate::head::{Head, Setup};
 use crate::history::Call;
 use crate::host::{HostFile, device_error};
 use crate::names::StoreFolder;
 use crate::place::create_file;
 use crate::placed::{Access, PlacedFile, hold, open_plain, path_in, sync_folder};
-use crate::start::{Opened, StoreFault};
+use crate::start::StoreFault;
 use std::alloc::Allocator;
 use std::fs::{File, Files};
 use std::io::Read;
@@ -100,34 +96,6 @@ pub fn begin_store<R: Files<File = File>, A: Allocator + Copy>(
     sync_names(folder.files(), alloc, folder.path())?;
     match Opening::begin(alloc, HostFile::new(file), setup) {
         Ok(opening) => Ok(opening),
-        Err(left) => Err(left.fault),
-    }
-}
-
-/// Opens the store in a folder, as [`begin_store`] and [`Opening::finish`] do, whatever its records are.
-pub fn open_store<R: Files<File = File>, A: Allocator + Copy>(
-    alloc: A,
-    folder: &mut StoreFolder<'_, R>,
-    setup: &Setup,
-) -> Result<Opened<HostFile>, StoreFault>
-    ensures settled { IfOk result (λ opened. IsSettled ⟦<StoreFile<HostFile> as Device>⟧.seen
-        ⟦<StoreFile<HostFile> as Device>⟧.may_leave (head_for setup.now opened.identity) opened.records.entries opened.log) }
-    ensures found { IfOk result (λ opened. IsFound (head_for setup.now opened.identity) opened.records.entries []
-        (⟦<HostFile as Calls>⟧.history opened.log.device.calls)) }
-    ensures err { IfErr result (λ fault. IsOfFolder fault ⊎ ((read : HostFile)
-        × IsUnopened fault setup.now (⟦<HostFile as Calls>⟧.drawn read) [] (⟦<HostFile as Calls>⟧.history read)
-        × LosesNothing [] (⟦<HostFile as Calls>⟧.history read) folder.new)) }
-    ensures names { MatchResult result (λ _. IsKeptAtMost folder.old folder.new)
-        (λ fault. IsLookedFor fault folder.old folder.new) }
-
-    // What the file had after its last whole record is kept before it is cut off.
-    ensures tail { IfOk result (λ opened. LosesNothing []
-        (⟦<HostFile as Calls>⟧.history opened.log.device.calls) folder.new) }
-{
-    let mut opening = begin_store(alloc, folder, setup)?;
-    pass_records(&mut opening)?;
-    match opening.finish(alloc, folder) {
-        Ok(opened) => Ok(opened),
         Err(left) => Err(left.fault),
     }
 }

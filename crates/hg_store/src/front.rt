@@ -135,9 +135,9 @@ impl<C: Calls, A: Allocator + Copy> Opening<C, A> {
         requires { (setup : AnySetup) × HasEnded C.Calls.drawn setup self }
         ensures settled { (setup : AnySetup) → HasEnded C.Calls.drawn setup self →
             IfOk result (λ opened. IsSettled ⟦<StoreFile<C> as Device>⟧.seen ⟦<StoreFile<C> as Device>⟧.may_leave
-            (head_for setup self.identity) self.records.entries opened.log) }
+            (head_for setup opened.identity) opened.records.entries opened.log) }
         ensures found { (setup : AnySetup) → HasEnded C.Calls.drawn setup self →
-            IfOk result (λ opened. IsFound (head_for setup self.identity) self.records.entries
+            IfOk result (λ opened. IsFound (head_for setup opened.identity) opened.records.entries
             (C.Calls.history self.calls) (C.Calls.history opened.log.device.calls)) }
         ensures err { (setup : AnySetup) → HasEnded C.Calls.drawn setup self →
             IfErr result (λ left. IsUnopened left.fault setup (C.Calls.drawn left.calls) (C.Calls.history self.calls)
@@ -146,7 +146,7 @@ impl<C: Calls, A: Allocator + Copy> Opening<C, A> {
         // The gates of the last records are written once more and synced: what was read of them may not have been on
         // the disk.
         ensures again { (setup : AnySetup) → HasEnded C.Calls.drawn setup self →
-            IfOk result (λ opened. AreOpenedAfter (head_for setup self.identity) self.records.entries
+            IfOk result (λ opened. AreOpenedAfter (head_for setup opened.identity) opened.records.entries
             (C.Calls.history self.calls) (C.Calls.history opened.log.device.calls)) }
 
         // What the file had after its last whole record is kept before it is cut off.
@@ -393,8 +393,8 @@ pub fn open_file<C: Calls, K: TailKeeper, A: Allocator + Copy>(
     }
 }
 
-/// Reads all records of a store.
-pub(crate) fn pass_records<C: Calls, A: Allocator + Copy>(
+/// Reads all records of a store that were not read yet, whatever they are.
+pub fn pass_records<C: Calls, A: Allocator + Copy>(
     opening: &mut Opening<C, A>,
 ) -> Result<(), StoreFault>
     requires { (setup : AnySetup) × HasRead C.Calls.drawn setup [] opening.old }

@@ -77,9 +77,9 @@ pub use entry::{Entry, Stamp, Standing};
 pub use file::StoreFile;
 pub use folder::{
     begin_store, create_store, kept_file, make_folder, new_identity, new_store, open_held,
-    open_store, store_file,
+    store_file,
 };
-pub use front::{Opening, open_file};
+pub use front::{Opening, open_file, pass_records};
 pub use head::{Head, HeadFault, Setup, Version};
 pub use history::{Call, History};
 pub use host::{HostFile, read_all};

@@ -4,6 +4,7 @@ ghost use Rattle.std.specs.Prelude.{◌<◌, ◌^◌, IfOk, length};
 ghost use Rattle.std.specs.List.{AllByRecursion};
 ghost use Rattle.hg_store.specs.Records.{IsSized};
 
+use hg_help_store_tests::folder::open_store;
 use hg_store::*;
 use hg_types::{Limits, NoMemory, Seq};
 use std::alloc::Global;

@@ -2,6 +2,7 @@
 
 use crate::tests::put_next;
 use hg_help_store_tests::drawer::Drawer;
+use hg_help_store_tests::folder::open_store;
 use hg_help_store_tests::paper::Paper;
 use hg_store::*;
 use hg_types::Limits;
