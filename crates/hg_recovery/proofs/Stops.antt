@@ -1,14 +1,19 @@
 -- Records that are run as they are read.
 use Rattle.std.proofs.Common.{◌≡◌, ◌∙◌, ◌+◌, ◌<◌, ℕ, Bool, List, [], ◌∷◌, ◌++◌, ap, append-nil, arith, get_or, length}
-use Rattle.std.proofs.Common.{length-append, refl, subst, sym, take}
+use Rattle.std.proofs.Common.{◌⊎◌, inl, inr, length-append, refl, subst, sym, take}
 use Rattle.std.proofs.lemmas.List.{get_or_push, take_at}
 use Rattle.std.specs.List.{AllByRecursion}
 use Rattle.hg_types.specs.Limits.{standard_limits}
 use Rattle.hg_push.specs.Run.{RepositoryOf}
+use Rattle.hg_store.specs.Calls.{Event}
 use Rattle.hg_store.specs.Entries.{Entry}
 use Rattle.hg_store.specs.Files.{stored}
 use Rattle.hg_store.specs.Head.{IsHead}
+use Rattle.hg_store.specs.Openings.{IsOfFolder, IsUnopened}
 use Rattle.hg_store.specs.Records.{IsRecord}
+use Rattle.hg_store.specs.Tails.{LosesNothing}
+use Rattle.hg_store.specs.declared.head.Setup.{Setup}
+use Rattle.hg_store.specs.declared.start.StoreFault.{StoreFault}
 use Rattle.hg_store.specs.declared.head.Version.TheVariants.{Second}
 use Rattle.hg_recovery.specs.Opening.{StopsOpening, StopsRead, empty_repository, head_of, setup_for}
 use Rattle.hg_recovery.specs.Replays.{IsUnrun, Replays, ReplaysOne}
@@ -58,3 +63,38 @@ stops_read A publishing identity records grown entry bundle bytes last place fau
         },
       );
     }
+
+-- why a store was not begun
+pub unbegun : {Read : Type 0} (drawn : Read → List ℕ) (history : Read → List Event) (found fault : StoreFault)
+    (setup other : Setup) (done : List Event) → found ≡ fault → setup ≡ other
+    → IsOfFolder found
+    ⊎ ((read : Read) × (history read ≡ []) × IsUnopened found setup (drawn read) [] (history read))
+    → IsOfFolder fault ⊎ ((read : Read) × IsUnopened fault other (drawn read) [] (history read)
+    × LosesNothing [] (history read) done)
+unbegun drawn history found fault setup other done same setup_is (inl of_folder) = inl (subst IsOfFolder same of_folder)
+unbegun drawn history found fault setup other done same setup_is (inr (read, none, why)) = inr (
+  read,
+  subst (λ (s : Setup). IsUnopened fault s (drawn read) [] (history read)) setup_is
+      (subst (λ (f : StoreFault). IsUnopened f setup (drawn read) [] (history read)) same why),
+  inl none,
+)
+
+-- why one was not read to its end
+pub unread_is : (found fault : StoreFault) (setup : Setup) (bytes : List ℕ) (before now done : List Event)
+    → found ≡ fault → before ≡ [] → now ≡ before → IsUnopened found setup bytes before now
+    → IsUnopened fault setup bytes [] now × LosesNothing [] now done
+unread_is found fault setup bytes before now done same none still why = (
+  subst (λ (b : List Event). IsUnopened fault setup bytes b now) none
+      (subst (λ (f : StoreFault). IsUnopened f setup bytes before now) same why),
+  inl (still ∙ none),
+)
+
+-- why one was not brought in order
+pub unfinished : (found fault : StoreFault) (setup : Setup) (bytes : List ℕ) (before now done : List Event)
+    → found ≡ fault → before ≡ [] → IsUnopened found setup bytes before now → LosesNothing before now done
+    → IsUnopened fault setup bytes [] now × LosesNothing [] now done
+unfinished found fault setup bytes before now done same none why lost = (
+  subst (λ (b : List Event). IsUnopened fault setup bytes b now) none
+      (subst (λ (f : StoreFault). IsUnopened f setup bytes before now) same why),
+  subst (λ (b : List Event). LosesNothing b now done) none lost,
+)
