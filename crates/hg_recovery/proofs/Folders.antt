@@ -1,5 +1,5 @@
 -- A store that is made where there is none.
-use Rattle.std.proofs.Common.{◌≡◌, ◌∙◌, inl, inr, ℕ, List, ◌∷◌, ap, refl, subst, sym}
+use Rattle.std.proofs.Common.{◌≡◌, inl, inr, ℕ, List, ◌∷◌, ap, arith, refl, subst, sym}
 use Rattle.std.specs.Prelude.{Result, Ok, Err, MatchResult}
 use Rattle.hg_store.specs.Calls.{Event, missed}
 use Rattle.hg_store.specs.Tails.{IsKeptAtMost, LosesNothing, tails_in}
@@ -21,7 +21,7 @@ missed_for OtherLimits before now looked = inl (inl looked)
 missed_for (Recover fault) before now looked = inl (inl looked)
 
 tails_for : (fault : StoreFault) (before now : List Event) → IsMissedFor fault before now → tails_in now ≡ tails_in before
-tails_for Missing before now looked = ap tails_in looked
+tails_for Missing before now looked = omega (arith, ap tails_in looked)
 tails_for Exists before now looked = ap tails_in looked
 tails_for Held before now looked = ap tails_in looked
 tails_for Linked before now looked = ap tails_in looked
@@ -37,11 +37,11 @@ tails_of (Err fault) before now looked = tails_for fault before now looked
 
 tails_made : (before now : List Event) → IsMadeAtMost before now → tails_in now ≡ tails_in before
 tails_made before now (inl same) = ap tails_in same
-tails_made before now (inr made) = ap tails_in made
+tails_made before now (inr made) = omega (arith, ap tails_in made)
 
 pub tails_then : (before none made : List Event) → none ≡ missed ∷ before → IsMadeAtMost none made
     → tails_in made ≡ tails_in before
-tails_then before none made is made_is = tails_made none made made_is ∙ ap tails_in is
+tails_then before none made is made_is = omega (arith, tails_made none made made_is, ap tails_in is)
 
 -- it was looked for once, and none is made
 pub once_refused : {T : Type 0} (r : Result T StoreFault) (before now : List Event)

@@ -9,8 +9,8 @@ use Rattle.hg_recovery.proofs.Folders.{names_begun, names_if}
 use Rattle.hg_recovery.proofs.Stops.{unbegun, unfinished, unread_is}
 use Rattle.hg_recovery.proofs.opening.recover_store.Goals as goal
 
-pub run_records-requires-read : goal.run_records-requires-read
-run_records-requires-read g c =
+pub run_records-requires-clause-read : goal.run_records-requires-clause-read
+run_records-requires-clause-read g c =
     subst (λ s. HasRead (λ f. bytes_in f.pieces.events) s [] c.in_ok-opening.opening) c.setup_for.ensures
     c.in_ok-opening.ensures.read
 
@@ -19,7 +19,7 @@ finish-requires g c = (setup_for c.args.publishing, c.in_ok-repo.ensures.ended)
 
 pub returns-in_err-opening-clause-unopened : goal.returns-in_err-opening-clause-unopened
 returns-in_err-opening-clause-unopened g c = λ fault is.
-    let p = err_from_is_err_and c.from_residual-in_err-opening.result c.from_residual-in_err-opening.ensures.1 in
+    let p = err_from_is_err_and c.from_residual.result c.from_residual.ensures.1 in
     let same : c.in_err-opening.field-0.0 ≡ fault = cc in
     unbegun (λ f. bytes_in f.pieces.events) (λ f. f.history.events) c.in_err-opening.field-0.0 fault
     c.setup_for.result (setup_for c.args.publishing) c.begin_in.new.folder same c.setup_for.ensures
@@ -38,13 +38,12 @@ returns-in_err-repo-clause-stops g c = λ fault is.
 pub returns-in_err-repo-clause-unopened : goal.returns-in_err-repo-clause-unopened
 returns-in_err-repo-clause-unopened g c = λ fault is.
     let p = err_from_is_err_and c.from_residual-in_err-repo.result c.from_residual-in_err-repo.ensures.1 in
-    let same : c.in_err-repo.field-0.0 ≡ Store fault = cc in inr (
-      c.run_records.new.opening.calls,
-      unread_is fault fault (setup_for c.args.publishing)
-          (bytes_in c.run_records.new.opening.calls.pieces.events) c.in_ok-opening.opening.calls.history.events
-          c.run_records.new.opening.calls.history.events c.begin_in.new.folder refl c.in_ok-opening.ensures.none.1
-          c.run_records.ensures.same (c.in_err-repo.ensures.unopened fault (ap Err same)),
-    )
+    let same : c.in_err-repo.field-0.0 ≡ Store fault = cc in
+    let why = unread_is fault fault (setup_for c.args.publishing)
+    (bytes_in c.run_records.new.opening.calls.pieces.events) c.in_ok-opening.opening.calls.history.events
+    c.run_records.new.opening.calls.history.events c.begin_in.new.folder refl c.in_ok-opening.ensures.none.1
+    c.run_records.ensures.same (c.in_err-repo.ensures.unopened fault (ap Err same)) in
+    inr (c.run_records.new.opening.calls, why.0, why.1)
 
 pub returns-in_err-repo-clause-names : goal.returns-in_err-repo-clause-names
 returns-in_err-repo-clause-names g c =
@@ -52,14 +51,13 @@ returns-in_err-repo-clause-names g c =
 
 pub returns-in-Err-clause-unopened : goal.returns-in-Err-clause-unopened
 returns-in-Err-clause-unopened g c = λ fault is.
-    let same : c.in-Err.left.fault ≡ fault = cc in inr (
-      c.in-Err.left.calls,
-      unfinished c.in-Err.left.fault fault (setup_for c.args.publishing)
-          (bytes_in c.in-Err.left.calls.pieces.events) c.run_records.new.opening.calls.history.events
-          c.in-Err.left.calls.history.events c.finish.new.keeper same
-          (c.run_records.ensures.same ∙ c.in_ok-opening.ensures.none.1)
-          (c.in-Err.ensures.err (setup_for c.args.publishing) c.in_ok-repo.ensures.ended) c.in-Err.ensures.tail_err,
-    )
+    let same : c.in-Err.left.fault ≡ fault = cc is in
+    let why = unfinished c.in-Err.left.fault fault (setup_for c.args.publishing)
+    (bytes_in c.in-Err.left.calls.pieces.events) c.run_records.new.opening.calls.history.events
+    c.in-Err.left.calls.history.events c.finish.new.keeper same
+    (c.run_records.ensures.same ∙ c.in_ok-opening.ensures.none.1)
+    (c.in-Err.ensures.err (setup_for c.args.publishing) c.in_ok-repo.ensures.ended) c.in-Err.ensures.tail_err in
+    inr (c.in-Err.left.calls, why.0, why.1)
 
 pub returns-in-Err-clause-names : goal.returns-in-Err-clause-names
 returns-in-Err-clause-names g c =

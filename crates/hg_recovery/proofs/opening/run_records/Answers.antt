@@ -14,7 +14,7 @@ use Rattle.hg_recovery.proofs.Stops.{ran_more, stops_read}
 use Rattle.hg_recovery.proofs.opening.run_records.Goals as goal
 
 pub loop-place-init : goal.loop-place-init
-loop-place-init g c =
+loop-place-init c =
     let first = empty_repository (setup_for c.args.publishing) in
     let repo : c.empty_repository-repo.result ≡ first =
     c.empty_repository-repo.ensures ∙ ap empty_repository c.setup_for.ensures in
@@ -28,7 +28,7 @@ loop-place-init g c =
     }
 
 pub loop-place-preserved : goal.loop-place-preserved
-loop-place-preserved g c =
+loop-place-preserved c =
     let i = c.loop-place.invariant in
     let next = subst (λ (more : Bool). HasNext (λ f. bytes_in f.pieces.events) (setup_for c.args.publishing) more
     c.loop-place.opening c.read_next.new.self) c.if-not-branch.false
@@ -52,7 +52,7 @@ loop-place-preserved g c =
     }
 
 pub returns-in_err-replay_record-clause-stops : goal.returns-in_err-replay_record-clause-stops
-returns-in_err-replay_record-clause-stops g c = λ fault is.
+returns-in_err-replay_record-clause-stops c = λ fault is.
     let i = c.loop-place.invariant in
     let p = err_from_is_err_and c.from_residual-in_err-replay_record.result
     c.from_residual-in_err-replay_record.ensures.1 in
@@ -69,13 +69,13 @@ returns-in_err-replay_record-clause-stops g c = λ fault is.
     c.bundle.result.now) (ap (λ (s : Settings). s.limits) i.settings) c.in_err-replay_record.ensures.fault) same
 
 pub returns-then-not-branch-clause-ended : goal.returns-then-not-branch-clause-ended
-returns-then-not-branch-clause-ended g c =
+returns-then-not-branch-clause-ended c =
     (subst (λ (more : Bool). HasNext (λ f. bytes_in f.pieces.events) (setup_for c.args.publishing) more
     c.loop-place.opening c.read_next.new.self) c.if-not-branch.true
     (c.in_ok-read_next.ensures.read (setup_for c.args.publishing) c.loop-place.invariant.read)).0
 
 pub returns-then-not-branch-clause-ran : goal.returns-then-not-branch-clause-ran
-returns-then-not-branch-clause-ran g c =
+returns-then-not-branch-clause-ran c =
     let next = subst (λ (more : Bool). HasNext (λ f. bytes_in f.pieces.events) (setup_for c.args.publishing) more
     c.loop-place.opening c.read_next.new.self) c.if-not-branch.true
     (c.in_ok-read_next.ensures.read (setup_for c.args.publishing) c.loop-place.invariant.read) in
@@ -86,7 +86,7 @@ returns-then-not-branch-clause-ran g c =
     }
 
 pub returns-in_err-read_next-clause-unopened : goal.returns-in_err-read_next-clause-unopened
-returns-in_err-read_next-clause-unopened g c = λ fault is.
+returns-in_err-read_next-clause-unopened c = λ fault is.
     let i = c.loop-place.invariant in
     let p = err_from_is_err_and c.from_residual-in_err-read_next.result
     c.from_residual-in_err-read_next.ensures.1 in

@@ -8,7 +8,7 @@ use Rattle.hg_recovery.proofs.opening.run_records.Given as goal
 
 -- the records that were read so far lead to the repository, whose settings stay
 abbrev pub invariant-loop-place : goal.invariant-loop-place
-invariant-loop-place g l = record {
+invariant-loop-place l = record {
   read : HasRead (λ f. bytes_in f.pieces.events) (setup_for l.publishing) [] l.opening;
   count : length l.opening.records.entries ≡ l.place;
   ran : Replays standard_limits (empty_repository (setup_for l.publishing)) l.opening.records.entries l.repo;
