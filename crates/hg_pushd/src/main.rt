@@ -6,11 +6,13 @@
 //! `hg_pushd log` (also as it follows one), `hg_pushd cut` and `hg_pushd upgrade` read a store, end it, and write it
 //! anew. All of these are
 //! functions of `hg_commands`.
-//! `hg_pushd host` answers HTTP, and keeps each push in a store: [`host`] begins it, over `hg_host`. The command
-//! line is read by `hg_commands`.
+//! `hg_pushd host` answers HTTP, and keeps each push in a store: [`host`] begins it, over `hg_host`. `hg_pushd import`
+//! brings the bundles of files into a store: [`import`], over `hg_import`. The command line is read by `hg_commands`.
 #![tactic(auto)]
 
 mod host;
+mod import;
+mod opened;
 
 use hg_commands::{
     Job, asked_for, cut, device_status, follow, list, log, log_to, one, replay, report, serve,
@@ -45,6 +47,7 @@ where
         Job::Replay { publishing, files } => printed(rt, replay(rt, state, *publishing, files)),
         Job::Serve(serving) => printed(rt, serve(rt, state, serving)),
         Job::Host(hosting) => host::host(rt, state, hosting),
+        Job::Import(importing) => import::import(rt, state, importing),
         Job::Report { store } => write_report(rt, state, store),
         Job::Log {
             store,
