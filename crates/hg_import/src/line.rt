@@ -1,5 +1,8 @@
 //! The line of a file: the place of its push, or the reason that it is not done.
 
+ghost use Rattle.std.specs.Prelude.{◌≡◌, ◌++◌, IfOk, OnOk, string_bytes};
+ghost use Rattle.hg_import.specs.Lines.{cut_text, place_line, race_text, reason_line, reason_text, refusal_text};
+
 use hg_parts::RaceText;
 use hg_push::Reason;
 use hg_repo::Refusal;
@@ -7,7 +10,9 @@ use hg_types::{CutReason, NoMemory};
 use std::alloc::Allocator;
 
 /// The line of a push that is done: its place in the store.
-pub fn done_line<A: Allocator>(alloc: A, place: usize) -> Result<String<A>, NoMemory> {
+pub fn place_line<A: Allocator>(alloc: A, place: usize) -> Result<String<A>, NoMemory>
+    ensures { IfOk result (λ line. string_bytes line ≡ place_line place) }
+{
     let mut line = String::new(alloc);
     write!(line, "{place}\n")?;
     Ok(line)
@@ -17,7 +22,9 @@ pub fn done_line<A: Allocator>(alloc: A, place: usize) -> Result<String<A>, NoMe
 pub fn reason_line<A: Allocator>(
     alloc: A,
     reason: &Reason<Refusal<A>>,
-) -> Result<String<A>, NoMemory> {
+) -> Result<String<A>, NoMemory>
+    ensures { IfOk result (λ line. string_bytes line ≡ reason_line reason.now) }
+{
     let mut line = String::new(alloc);
     push_reason(&mut line, reason)?;
     line.push_str("\n")?;
@@ -28,7 +35,9 @@ pub fn reason_line<A: Allocator>(
 fn push_reason<A: Allocator>(
     line: &mut String<A>,
     reason: &Reason<Refusal<A>>,
-) -> Result<(), NoMemory> {
+) -> Result<(), NoMemory>
+    ensures { OnOk result (string_bytes line.new ≡ string_bytes line.old ++ reason_text reason.now) }
+{
     match reason {
         Reason::Refused(refusal) => push_refusal(line, refusal)?,
         Reason::Cut(cut) => push_cut(line, *cut)?,
@@ -39,7 +48,9 @@ fn push_reason<A: Allocator>(
 }
 
 /// Adds why the run of a push was refused.
-fn push_refusal<A: Allocator>(line: &mut String<A>, refusal: &Refusal<A>) -> Result<(), NoMemory> {
+fn push_refusal<A: Allocator>(line: &mut String<A>, refusal: &Refusal<A>) -> Result<(), NoMemory>
+    ensures { OnOk result (string_bytes line.new ≡ string_bytes line.old ++ refusal_text refusal.now) }
+{
     match refusal {
         Refusal::Unsupported { place, .. } => write!(line, "part {place} is not supported")?,
         Refusal::Raced { text, .. } => push_race(line, *text)?,
@@ -54,7 +65,9 @@ fn push_refusal<A: Allocator>(line: &mut String<A>, refusal: &Refusal<A>) -> Res
 }
 
 /// Adds why a push was cut off.
-fn push_cut<A: Allocator>(line: &mut String<A>, cut: CutReason) -> Result<(), NoMemory> {
+fn push_cut<A: Allocator>(line: &mut String<A>, cut: CutReason) -> Result<(), NoMemory>
+    ensures { OnOk result (string_bytes line.new ≡ string_bytes line.old ++ cut_text cut) }
+{
     match cut {
         CutReason::Stream(fault) => write!(line, "stream fault {fault}")?,
         CutReason::ReadFailed => line.push_str("read failed")?,
@@ -64,7 +77,9 @@ fn push_cut<A: Allocator>(line: &mut String<A>, cut: CutReason) -> Result<(), No
 }
 
 /// Adds what was not as the client saw it.
-fn push_race<A: Allocator>(line: &mut String<A>, race: RaceText) -> Result<(), NoMemory> {
+fn push_race<A: Allocator>(line: &mut String<A>, race: RaceText) -> Result<(), NoMemory>
+    ensures { OnOk result (string_bytes line.new ≡ string_bytes line.old ++ race_text race) }
+{
     match race {
         RaceText::HeadsChanged => line.push_str("heads changed")?,
         RaceText::PhasesChanged => line.push_str("phases changed")?,

@@ -1,8 +1,19 @@
 //! A bundle that is run as a push.
 
+ghost use Rattle.std.specs.Prelude.{◌≡◌, ◌≤◌, ◌<◌, ◌^◌, [], List, ℕ, IfErr, IfOk, OnErr, OnOk, length, take};
+ghost use Rattle.hg_types.specs.Limits.{IsAllowed};
+ghost use Rattle.hg_types.specs.declared.limits.Limits.{Limits as AnyLimits};
+ghost use Rattle.hg_stream.specs.declared.state.State.TheVariants.{Reading};
+ghost use Rattle.hg_stream.specs.Frames.{IsBundle};
+ghost use Rattle.hg_stream.specs.Unbundler.{HoldsBundle, limits_of, ready_of, state_of};
+ghost use Rattle.hg_recovery.specs.Replays.{ReplaysOne};
+ghost use Rattle.hg_push.specs.Run.{RepositoryOf};
+ghost use Rattle.hg_import.specs.Pushing.{BeginsWith, IsUndone, ShowsFault};
+
 use hg_push::Reason;
+use hg_push::laws::memory_refuses_no_part;
 use hg_repo::{Refusal, Repo, Source};
-use hg_stream::laws::{parts_are_few, streams_have_one_verdict};
+use hg_stream::laws::parts_are_few;
 use hg_stream::{StreamFault, Unbundler, all_parts};
 use hg_types::{CutReason, Limits, Part};
 use std::alloc::Allocator;
@@ -13,7 +24,16 @@ pub fn run_bundle<A: Allocator + Copy>(
     alloc: A,
     repo: &mut Repo<A>,
     bytes: &[u8],
-) -> Result<usize, Reason<Refusal<A>>> {
+) -> Result<usize, Reason<Refusal<A>>>
+    requires { IsAllowed repo.old.settings.limits }
+    ensures within { IfOk result (λ count. count ≤ length bytes.now) }
+    ensures ran { IfOk result (λ count.
+        ReplaysOne repo.old.settings.limits repo.old (take count bytes.now) repo.new) }
+    ensures err { OnErr result (repo.new ≡ repo.old) }
+    ensures reason { IfErr result (λ reason.
+        IsUndone reason repo.old.settings.limits repo.old bytes.now) }
+    ensures settings { repo.new.settings ≡ repo.old.settings }
+{
     let limits = repo.settings().limits;
     let (count, parts) = match front_parts(alloc, limits, bytes) {
         Ok(front) => front,
@@ -30,7 +50,12 @@ fn front_parts<A: Allocator + Copy>(
     alloc: A,
     limits: Limits,
     bytes: &[u8],
-) -> Result<(usize, Vec<Part<A>, A>), Reason<Refusal<A>>> {
+) -> Result<(usize, Vec<Part<A>, A>), Reason<Refusal<A>>>
+    requires { IsAllowed limits }
+    ensures within { IfOk result (λ front. front.0 ≤ length bytes.now) }
+    ensures parts { IfOk result (λ front. IsBundle limits (take front.0 bytes.now) front.1.items) }
+    ensures reason { IfErr result (λ reason. (repo : RepositoryOf A) → IsUndone reason limits repo bytes.now) }
+{
     let mut bundle = Unbundler::new(alloc, limits);
     let count = match feed_front(&mut bundle, bytes) {
         Ok(count) => count,
@@ -46,7 +71,14 @@ fn front_parts<A: Allocator + Copy>(
 fn feed_front<A: Allocator + Copy>(
     bundle: &mut Unbundler<A>,
     bytes: &[u8],
-) -> Result<usize, StreamFault> {
+) -> Result<usize, StreamFault>
+    requires empty { HoldsBundle bundle.old [] [] }
+    requires reading { state_of bundle.old ≡ Reading }
+    ensures within { IfOk result (λ count. count ≤ length bytes.now) }
+    ensures whole { IfOk result (λ count.
+        IsBundle (limits_of bundle.old) (take count bytes.now) (ready_of bundle.new)) }
+    ensures fault { IfErr result (λ fault. ShowsFault A fault (limits_of bundle.old) bytes.now) }
+{
     let count = bundle.feed(bytes)?;
     bundle.end_input()?;
     Ok(count)
@@ -56,7 +88,17 @@ fn feed_front<A: Allocator + Copy>(
 fn run_parts<A: Allocator + Copy>(
     repo: &mut Repo<A>,
     parts: &[Part<A>],
-) -> Result<(), Reason<Refusal<A>>> {
+) -> Result<(), Reason<Refusal<A>>>
+    requires { length parts.now < 2 ^ 32 }
+    ensures ok { (limits : AnyLimits) (bundle : List ℕ) → IsBundle limits bundle parts.now →
+        OnOk result (ReplaysOne limits repo.old bundle repo.new) }
+    ensures err { OnErr result (repo.new ≡ repo.old) }
+    ensures reason { (limits : AnyLimits) (bytes bundle : List ℕ) → BeginsWith limits bytes bundle parts.now →
+        IfErr result (λ reason. IsUndone reason limits repo.old bytes) }
+    ensures settings { repo.new.settings ≡ repo.old.settings }
+{
+    // so a part that is refused is not refused for memory
+    memory_refuses_no_part::<A>();
     match repo.run(Source::Push, parts) {
         Ok(_) => Ok(()),
         Err(Refusal::NoMemory) => Err(Reason::NoMemory),

@@ -1,5 +1,9 @@
 //! The bytes at the front of a file.
 
+ghost use Rattle.std.specs.Prelude.{◌≡◌, ◌≤◌, ◌<◌, ◌++◌, IfOk, OnErr, OnOk, take};
+ghost use Rattle.std.specs.Io.KnownBytes.{Consumes, IsAtEnd, Keeps};
+ghost use Rattle.hg_store.specs.Pieces.{ReadsUpTo};
+
 use hg_types::NoMemory;
 use std::alloc::Allocator;
 use std::io;
@@ -22,7 +26,9 @@ pub fn read_front<R: Read, A: Allocator>(
     alloc: A,
     reader: &mut R,
     most: usize,
-) -> Result<Vec<u8, A>, InputFault> {
+) -> Result<Vec<u8, A>, InputFault>
+    ensures { IfOk result (λ bytes. ReadsUpTo most bytes.items (R.remaining reader.old) (R.remaining reader.new)) }
+{
     let mut bytes = Vec::new(alloc);
     let mut piece = [0; PIECE];
     let mut left = most;
@@ -49,12 +55,21 @@ pub fn read_front<R: Read, A: Allocator>(
 }
 
 /// Reads once, to the front of the piece, at most so many bytes.
-fn read_piece<R: Read>(reader: &mut R, most: usize, piece: &mut [u8; PIECE]) -> io::Result<usize> {
+fn read_piece<R: Read>(reader: &mut R, most: usize, piece: &mut [u8; PIECE]) -> io::Result<usize>
+    ensures most { IfOk result (λ got. got ≤ most) }
+    ensures bound { IfOk result (λ got. got ≤ 8192) }
+    ensures bytes { IfOk result (λ got.
+        Consumes (R.remaining reader.old) (R.remaining reader.new) (take got piece.new)) }
+    ensures end { IfOk result (λ got. got ≡ 0 → 0 < most → IsAtEnd (R.remaining reader.new)) }
+    ensures failed { OnErr result (Keeps (R.remaining reader.old) (R.remaining reader.new)) }
+{
     reader.read(&mut piece[..most.min(PIECE)])
 }
 
 /// Appends the piece.
-fn add_piece<A: Allocator>(bytes: &mut Vec<u8, A>, piece: &[u8]) -> Result<(), NoMemory> {
+fn add_piece<A: Allocator>(bytes: &mut Vec<u8, A>, piece: &[u8]) -> Result<(), NoMemory>
+    ensures { OnOk result (bytes.new.items ≡ bytes.old.items ++ piece.now) }
+{
     bytes.extend_from_slice(piece)?;
     Ok(())
 }
