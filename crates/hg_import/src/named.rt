@@ -1,5 +1,7 @@
 //! A file of the system that is opened once it is read.
 
+ghost use Rattle.std.specs.Io.{ReadsAtMost};
+
 use std::fs::{File, Files};
 use std::io;
 use std::io::{ErrorKind, Read};
@@ -37,7 +39,9 @@ impl<'a, R: Files<File = File>> NamedFile<'a, R> {
     }
 
     /// Reads, where it is open, and closes it at its end.
-    fn read_open(&mut self, buffer: &mut [u8]) -> io::Result<usize> {
+    fn read_open(&mut self, buffer: &mut [u8]) -> io::Result<usize>
+        ensures { ReadsAtMost result buffer.new }
+    {
         let Some(file) = &mut self.file else {
             return Ok(0);
         };
@@ -58,7 +62,9 @@ impl<'a, R: Files<File = File>> NamedFile<'a, R> {
     }
 
     /// Opens it where need be, and reads.
-    fn read_on(&mut self, buffer: &mut [u8]) -> io::Result<usize> {
+    fn read_on(&mut self, buffer: &mut [u8]) -> io::Result<usize>
+        ensures { ReadsAtMost result buffer.new }
+    {
         self.open()?;
         self.read_open(buffer)
     }

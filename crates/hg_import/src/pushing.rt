@@ -14,7 +14,7 @@ use hg_push::Reason;
 use hg_push::laws::memory_refuses_no_part;
 use hg_repo::{Refusal, Repo, Source};
 use hg_stream::laws::parts_are_few;
-use hg_stream::{StreamFault, Unbundler, all_parts};
+use hg_stream::{State, StreamFault, Unbundler, all_parts};
 use hg_types::{CutReason, Limits, Part};
 use std::alloc::Allocator;
 
@@ -79,9 +79,14 @@ fn feed_front<A: Allocator + Copy>(
         IsBundle (limits_of bundle.old) (take count bytes.now) (ready_of bundle.new)) }
     ensures fault { IfErr result (λ fault. ShowsFault A fault (limits_of bundle.old) bytes.now) }
 {
-    let count = bundle.feed(bytes)?;
-    bundle.end_input()?;
-    Ok(count)
+    let count = match bundle.feed(bytes) {
+        Ok(count) => count,
+        Err(fault) => return Err(fault),
+    };
+    match bundle.state() {
+        State::Ended => Ok(count),
+        _ => Err(StreamFault::Truncated),
+    }
 }
 
 /// Runs the parts of a bundle as a push.

@@ -21,6 +21,18 @@ pub enum InputFault {
     NoMemory,
 }
 
+/// Whatever says that memory was refused.
+impl<E: Into<NoMemory> + Drop> From<E> for InputFault {
+    ghost use Rattle.std.specs.Prelude.{◌≡◌};
+    ghost use Rattle.hg_import.specs.declared.reading.InputFault.TheVariants.{NoMemory as out_of_memory};
+
+    ghost from_gives = { λ _ told. told ≡ out_of_memory };
+
+    fn from(_refused: E) -> Self {
+        InputFault::NoMemory
+    }
+}
+
 /// The bytes of a file, or so many of the first ones, where it has more.
 pub fn read_front<R: Read, A: Allocator>(
     alloc: A,
@@ -39,9 +51,7 @@ pub fn read_front<R: Read, A: Allocator>(
         match read_piece(reader, left, &mut piece) {
             Ok(0) => return Ok(bytes),
             Ok(got) => {
-                if add_piece(&mut bytes, &piece[..got]).is_err() {
-                    return Err(InputFault::NoMemory);
-                }
+                add_piece(&mut bytes, &piece[..got])?;
                 left -= got;
             }
             Err(error) => {
