@@ -1,5 +1,5 @@
 -- Bundles of files that become the next records of a store, one after the other.
-use Rattle.std.specs.Prelude.{ℕ, ◌≡◌, ◌⊎◌, ◌+◌, ◌++◌, List, [], ◌∷◌, length, Option, None, Some}
+use Rattle.std.specs.Prelude.{ℕ, ◌≡◌, ◌≢◌, ◌+◌, ◌++◌, List, [], ◌∷◌, length, Option, None, Some}
 use Rattle.hg_types.specs.declared.item.CutReason.TheVariants.{ReadFailed}
 use Rattle.hg_types.specs.declared.limits.Limits.{Limits}
 use Rattle.hg_parts.specs.declared.refusal.Refusal.{Refusal}
@@ -8,7 +8,8 @@ use Rattle.hg_push.specs.declared.outcome.Reason.TheVariants.{Cut, NoMemory as w
 use Rattle.hg_push.specs.Run.{RepositoryOf}
 use Rattle.hg_connection.specs.Devices.{Output}
 use Rattle.hg_connection.specs.Sent.{Sends}
-use Rattle.hg_connection.specs.declared.sending.Sending.TheVariants.{Whole, Broken}
+use Rattle.hg_connection.specs.declared.sending.Sending.TheVariants.{Whole}
+use Rattle.hg_connection.specs.declared.sending.Sending.{Sending}
 use Rattle.hg_recovery.specs.Replays.{Replays, ReplaysOne}
 use Rattle.hg_store.specs.Device.{LeavesOnly}
 use Rattle.hg_store.specs.Entries.{Entry}
@@ -56,7 +57,8 @@ IsWritten line before after = (count : ℕ) × Sends Whole count before after li
 
 -- a line was not taken, or not whole
 abbrev pub IsUnwritten : List ℕ → Output → Output → Type 0
-IsUnwritten line before after = (count : ℕ) × Sends Broken count before after line
+IsUnwritten line before after =
+    (sending : Sending) × (count : ℕ) × (sending ≢ Whole) × Sends sending count before after line
 
 -- how it ended where a push is not done for that reason: that was written, or not taken, or memory was refused for it
 abbrev pub IsToldSo : {A : Type 0} → ImportStop A → Reason (Refusal A) → Output → Output → Type 0

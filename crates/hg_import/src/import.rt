@@ -1,12 +1,14 @@
 //! Bundles of files that become the next records of a store, one after the other.
 
-ghost use Rattle.std.specs.Prelude.{◌≡◌, ◌+◌, List, IfErr, IfOk, OnErr, OnOk, length, map};
+ghost use Rattle.std.specs.Prelude.{◌≡◌, ◌+◌, ◌<◌, [], List, IfErr, IfOk, OnErr, OnOk};
+ghost use Rattle.std.specs.Prelude.{length, map, vec_capacity, vec_len};
 ghost use Rattle.hg_types.specs.Limits.{IsAllowed};
 ghost use Rattle.hg_store.specs.Entries.{Entry};
 ghost use Rattle.hg_store.specs.Log.{IsSettled};
 ghost use Rattle.hg_store.specs.Records.{IsSized};
 ghost use Rattle.hg_store.specs.declared.head.Head.{Head};
-ghost use Rattle.hg_import.specs.Imports.{Imports, ImportsFiles, IsNotDone, IsUnwritten, IsWritten, PushesFile};
+ghost use Rattle.hg_import.specs.Imports.{Adds, Imports, ImportsFiles, MayAdd};
+ghost use Rattle.hg_import.specs.Imports.{IsNotDone, IsUnwritten, IsWritten, PushesFile};
 ghost use Rattle.hg_import.specs.Imports.{IsToldSo, Stops};
 ghost use Rattle.hg_import.specs.Statuses.{reason_status, stop_status};
 
@@ -16,7 +18,7 @@ use crate::reading::{InputFault, read_front};
 use hg_connection::{Sending, Writer, send};
 use hg_push::Reason;
 use hg_repo::{Refusal, Repo};
-use hg_store::{Device, Log, Sealed, Stamp};
+use hg_store::{Device, DeviceError, Log, Sealed, Stamp};
 use hg_types::{CutReason, Seq};
 use std::alloc::Allocator;
 use std::io::Read;
@@ -148,8 +150,11 @@ fn import_file<A: Allocator + Copy, D: Device, I: Read, W: Writer, T: Times>(
     let Ok(line) = place_line(alloc, place) else {
         return Err(ImportStop::NoMemory);
     };
+    let Ok(room) = Vec::with_capacity(alloc, 1) else {
+        return Err(ImportStop::NoMemory);
+    };
     match push_file(alloc, times, repo, file) {
-        Ok(record) => match log.append(&[record]) {
+        Ok(entry) => match add_record(log, room, entry) {
             Ok(()) => match tell(writer, line.as_bytes()) {
                 Ok(()) => Ok(next),
                 Err(()) => Err(ImportStop::PlaceUnsent),
@@ -158,6 +163,28 @@ fn import_file<A: Allocator + Copy, D: Device, I: Read, W: Writer, T: Times>(
         },
         Err(reason) => Err(not_done(alloc, writer, reason)),
     }
+}
+
+/// Adds the record of a push to a store. It takes the room that was had for it, and no other memory.
+fn add_record<A: Allocator, D: Device>(
+    log: &mut Log<D>,
+    room: Vec<Sealed<A>, A>,
+    entry: Sealed<A>,
+) -> Result<(), DeviceError>
+    requires room { vec_len room < vec_capacity room }
+    requires empty { room.items ≡ [] }
+    requires sized { IsSized entry }
+    requires settled { (head : Head) × (records : List Entry)
+        × IsSettled D.seen D.may_leave head records log.old }
+    ensures ok { (head : Head) (records : List Entry) → IsSettled D.seen D.may_leave head records log.old →
+        OnOk result (Adds D.seen D.may_leave D.moment D.left_since head records entry log.old log.new) }
+    ensures any_moment { (head : Head) (records : List Entry) →
+        IsSettled D.seen D.may_leave head records log.old →
+        MayAdd D.seen D.may_leave D.moment D.left_since head records entry log.old log.new }
+{
+    let mut batch = room;
+    batch.push_reserved(entry);
+    log.append(batch.as_slice())
 }
 
 /// Writes why a push is not done, and stops.
