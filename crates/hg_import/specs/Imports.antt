@@ -1,5 +1,5 @@
 -- Bundles of files that become the next records of a store, one after the other.
-use Rattle.std.specs.Prelude.{ℕ, ◌≡◌, ◌≢◌, ◌+◌, ◌++◌, List, [], ◌∷◌, length, Option, None, Some}
+use Rattle.std.specs.Prelude.{ℕ, ◌≡◌, ◌≢◌, ◌⊎◌, ◌+◌, ◌++◌, List, [], ◌∷◌, length, Option, None, Some}
 use Rattle.hg_types.specs.declared.item.CutReason.TheVariants.{ReadFailed}
 use Rattle.hg_types.specs.declared.limits.Limits.{Limits}
 use Rattle.hg_parts.specs.declared.refusal.Refusal.{Refusal}
@@ -42,14 +42,15 @@ pub record PushesFile {A : Type 0} (limits : Limits) (first : RepositoryOf A) (f
   pub unnamed : entry.stamp.name ≡ []
   pub ran : ReplaysOne limits first entry.bundle last
 
--- Why the push of a file is not done on a repository: its front is why; or the file failed, or memory was refused,
--- and of these nothing is said.
-pub data IsNotDone {A : Type 0} (reason : Reason (Refusal A)) (limits : Limits) (repo : RepositoryOf A)
-    (file left : FileBytes) : Type 0 where
-  undone : (bytes : List ℕ) → GivesFront limits file left bytes → IsUndone reason limits repo bytes →
-      IsNotDone reason limits repo file left
-  unread : reason ≡ Cut ReadFailed → IsNotDone reason limits repo file left
-  starved : reason ≡ without_memory → IsNotDone reason limits repo file left
+-- the bytes of a file are not had: it failed, or memory was refused
+abbrev pub IsUnread : {A : Type 0} → Reason (Refusal A) → Type 0
+IsUnread reason = (reason ≡ Cut ReadFailed) ⊎ (reason ≡ without_memory)
+
+-- Why the push of a file is not done on a repository: its bytes are not had, of which nothing more is said; or its front
+-- says why.
+abbrev pub IsNotDone : {A : Type 0} → Reason (Refusal A) → Limits → RepositoryOf A → FileBytes → FileBytes → Type 0
+IsNotDone reason limits repo file left =
+    IsUnread reason ⊎ ((bytes : List ℕ) × GivesFront limits file left bytes × IsUndone reason limits repo bytes)
 
 -- a line was written and flushed
 abbrev pub IsWritten : List ℕ → Output → Output → Type 0

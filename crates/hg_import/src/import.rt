@@ -1,7 +1,7 @@
 //! Bundles of files that become the next records of a store, one after the other.
 
 ghost use Rattle.std.specs.Prelude.{◌≡◌, ◌+◌, ◌<◌, [], List, IfErr, IfOk, OnErr, OnOk};
-ghost use Rattle.std.specs.Prelude.{length, map, vec_capacity, vec_len};
+ghost use Rattle.std.specs.Prelude.{length, map, take, vec_capacity, vec_len};
 ghost use Rattle.hg_types.specs.Limits.{IsAllowed};
 ghost use Rattle.hg_store.specs.Entries.{Entry};
 ghost use Rattle.hg_store.specs.Log.{IsSettled};
@@ -9,7 +9,7 @@ ghost use Rattle.hg_store.specs.Records.{IsSized};
 ghost use Rattle.hg_store.specs.declared.head.Head.{Head};
 ghost use Rattle.hg_import.specs.Imports.{Adds, Imports, ImportsFiles, MayAdd};
 ghost use Rattle.hg_import.specs.Imports.{IsNotDone, IsUnwritten, IsWritten, PushesFile};
-ghost use Rattle.hg_import.specs.Imports.{IsToldSo, Stops};
+ghost use Rattle.hg_import.specs.Imports.{GivesFront, IsToldSo, IsUnread, Stops};
 ghost use Rattle.hg_import.specs.Statuses.{reason_status, stop_status};
 
 use crate::line::{place_line, reason_line};
@@ -19,7 +19,7 @@ use hg_connection::{Sending, Writer, send};
 use hg_push::Reason;
 use hg_repo::{Refusal, Repo};
 use hg_store::{Device, DeviceError, Log, Sealed, Stamp};
-use hg_types::{CutReason, Seq};
+use hg_types::{CutReason, Limits, Seq};
 use std::alloc::Allocator;
 use std::io::Read;
 
@@ -227,24 +227,46 @@ fn push_file<A: Allocator + Copy, I: Read, T: Times>(
     requires { IsAllowed repo.old.settings.limits }
     ensures done { IfOk result (λ entry. PushesFile repo.old.settings.limits repo.old
         (I.remaining file.old) (I.remaining file.new) entry repo.new) }
-    ensures sized { IfOk result (λ entry. IsSized entry) }
     ensures err { OnErr result (repo.new ≡ repo.old) }
     ensures reason { IfErr result (λ reason. IsNotDone reason repo.old.settings.limits repo.old
         (I.remaining file.old) (I.remaining file.new)) }
     ensures settings { repo.new.settings ≡ repo.old.settings }
 {
-    let most = repo.settings().limits.stream as usize;
-    let mut bytes = match read_front(alloc, file, most + 1) {
+    let limits = repo.settings().limits;
+    let bytes = match front_of(alloc, limits, file) {
         Ok(bytes) => bytes,
-        Err(InputFault::Failed) => return Err(Reason::Cut(CutReason::ReadFailed)),
-        Err(InputFault::NoMemory) => return Err(Reason::NoMemory),
+        Err(reason) => return Err(reason),
     };
     let time = times.millis();
     match run_bundle(alloc, repo, &bytes) {
-        Ok(count) => {
-            bytes.truncate(count);
-            Ok(Sealed::new(Stamp::unnamed(alloc, time), Seq::from_vec(bytes)))
-        }
+        Ok(count) => Ok(entry_of(alloc, time, bytes, count)),
         Err(reason) => Err(reason),
     }
+}
+
+/// The bytes of a file, or its first ones, one more than a bundle may have.
+fn front_of<A: Allocator, I: Read>(
+    alloc: A,
+    limits: Limits,
+    file: &mut I,
+) -> Result<Vec<u8, A>, Reason<Refusal<A>>>
+    requires { IsAllowed limits }
+    ensures ok { IfOk result (λ bytes. GivesFront limits (I.remaining file.old) (I.remaining file.new) bytes.items) }
+    ensures err { IfErr result (λ reason. IsUnread reason) }
+{
+    let most = limits.stream as usize;
+    match read_front(alloc, file, most + 1) {
+        Ok(bytes) => Ok(bytes),
+        Err(InputFault::Failed) => Err(Reason::Cut(CutReason::ReadFailed)),
+        Err(InputFault::NoMemory) => Err(Reason::NoMemory),
+    }
+}
+
+/// The record of so many bytes, without a name.
+fn entry_of<A: Allocator>(alloc: A, time: u64, mut bytes: Vec<u8, A>, count: usize) -> Sealed<A>
+    ensures bundle { result.bundle ≡ take count bytes.items }
+    ensures unnamed { result.stamp.name ≡ [] }
+{
+    bytes.truncate(count);
+    Sealed::new(Stamp::unnamed(alloc, time), Seq::from_vec(bytes))
 }
