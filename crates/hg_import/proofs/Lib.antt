@@ -1,3 +1,4 @@
 mod Adding
 mod Feeding
 mod Fronts
+mod Pushes
