@@ -2,3 +2,4 @@ mod Adding
 mod Feeding
 mod Fronts
 mod Pushes
+mod Stopping
