@@ -2,4 +2,5 @@ mod Adding
 mod Feeding
 mod Fronts
 mod Pushes
+mod Rows
 mod Stopping
