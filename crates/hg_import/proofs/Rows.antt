@@ -23,6 +23,10 @@ runs_more limits first mid last [] entry same one =
 runs_more limits first mid last (e ∷ entries) entry all one =
     (all.0, all.1, runs_more limits all.0 mid last entries entry all.2 one)
 
+-- equal lists have equal heads
+heads_same : {X : Type 0} (x y : X) (xs ys : List X) → x ∷ xs ≡ y ∷ ys → x ≡ y
+heads_same x y xs ys is = cc
+
 module _ {A D : Type 0} (seen : D → List ℕ) (may_leave : D → List ℕ → Type 0) (moment : D → ℕ)
     (left_since : D → ℕ → List ℕ → Type 0) (limits : Limits) where
   -- one file more
@@ -119,7 +123,8 @@ module _ {A D : Type 0} (seen : D → List ℕ) (may_leave : D → List ℕ → 
     heads = sym now_is ∙ p.rest ∙ files_are
 
     same : get_or files at file ≡ file
-    same = let both : get_or files at file ≡ get_or now at file = cc in both ∙ here
+    same = sym (heads_same (get_or now at file) (get_or files at file) (drop (at + 1) now) (drop (at + 1) files) heads)
+        ∙ here
 
     -- the file there is brought in too
     pub slot_brought : (next : ℕ) (new : Place A D) → new.repo.settings ≡ old.repo.settings
@@ -197,8 +202,8 @@ module _ {A D : Type 0} (seen : D → List ℕ) (may_leave : D → List ℕ → 
         first_lefts = take at now;
         last_files = [];
         last_lefts = [];
-        files_are = sym (append-nil (take at files) ∙ take_all files at within);
-        lefts_are = sym (append-nil (take at now) ∙ take_all now at all);
+        files_are = sym (append-nil (take at files) ∙ take_all at files within);
+        lefts_are = sym (append-nil (take at now) ∙ take_all at now all);
         entries = b.entries;
         mid = new;
         each = b.each;
@@ -207,3 +212,46 @@ module _ {A D : Type 0} (seen : D → List ℕ) (may_leave : D → List ℕ → 
         place_is = b.place_is;
         ends = (refl, refl, refl);
       }
+
+module _ {A D T : Type 0} (seen : D → List ℕ) (may_leave : D → List ℕ → Type 0) (moment : D → ℕ)
+    (left_since : D → ℕ → List ℕ → Type 0) (limits own : Limits) (told : T → FileBytes) (files : List FileBytes)
+    (readers : List T) (at stored place : ℕ) (reader after : T) (old mid : Place A D) (below : at < length readers)
+    (here : reader ≡ get_or readers at reader) (same : own ≡ limits)
+    (p : Brings seen may_leave moment left_since limits files (map told readers) at stored place old mid) where
+  within_map : at < length (map told readers)
+  within_map = omega (arith, below, length-map readers told)
+
+  here_map : get_or (map told readers) at (told reader) ≡ told reader
+  here_map = get_or-map told readers at reader (told reader) below ∙ ap told (sym here)
+
+  -- the same of readers, which have these bytes to give
+  pub file_brought : (next : ℕ) (new : Place A D) → new.repo.settings ≡ old.repo.settings
+      → ((head : Head) (records : List Entry) → IsSettled seen may_leave head records mid.log
+      → place ≡ length records → (entry : Entry)
+      × Imports seen may_leave moment left_since own head records (told reader) (told after) entry mid new)
+      → next ≡ place + 1
+      → Brings seen may_leave moment left_since limits files (map told (set readers at after)) (at + 1) stored next old new
+  file_brought next new settings one is =
+      subst (λ (l : List FileBytes). Brings seen may_leave moment left_since limits files l (at + 1) stored next old new)
+      (sym (map-set told readers at after))
+      (slot_brought seen may_leave moment left_since limits files (map told readers) at stored place (told reader)
+      (told after) old mid within_map here_map p next new settings
+      (λ head records settled is_here. subst (λ (l : Limits). (entry : Entry)
+      × Imports seen may_leave moment left_since l head records (told reader) (told after) entry mid new) same
+      (one head records settled is_here)) is)
+
+  pub file_stopped : (stop : ImportStop A) (new : Place A D)
+      → ((head : Head) (records : List Entry) → IsSettled seen may_leave head records mid.log
+      → place ≡ length records
+      → Stops seen may_leave moment left_since stop own head records (told reader) (told after) mid new)
+      → (head : Head) (records : List Entry) → IsSettled seen may_leave head records old.log
+      → stored ≡ length records
+      → ImportsFiles seen may_leave moment left_since limits head records files (map told (set readers at after)) old new
+      place (Some stop)
+  file_stopped stop new stops head records settled stored_is =
+      subst (λ (l : List FileBytes). ImportsFiles seen may_leave moment left_since limits head records files l old new
+      place (Some stop)) (sym (map-set told readers at after))
+      (stopped_at seen may_leave moment left_since limits files (map told readers) at stored place (told reader)
+      (told after) old mid within_map here_map p stop new
+      (λ h rs at_rest is_here. subst (λ (l : Limits). Stops seen may_leave moment left_since stop l h rs (told reader)
+      (told after) mid new) same (stops h rs at_rest is_here)) head records settled stored_is)

@@ -140,21 +140,22 @@ module _ {D : Type 0} (seen : D → List ℕ) (may_leave : D → List ℕ → Ty
       (lefts ≡ files) × Stops stop limits head records file left old new
   EndsSo (Some stop) limits head records files lefts old new = ⊥
 
-  -- Bundles of files were brought into a store of these records. The pushes of the first files are done, one after the
-  -- other: these are their records, which are on the device behind the others, in their order, and they lead from the
-  -- repository before to one. Then it ended, so.
-  pub record ImportsFiles {A : Type 0} (limits : Limits) (head : Head) (records : List Entry)
-      (files lefts : List FileBytes) (old new : Place A D) (place : ℕ) (stop : Option (ImportStop A)) : Type 0 where
-    pub first_files : List FileBytes
-    pub first_lefts : List FileBytes
-    pub last_files : List FileBytes
-    pub last_lefts : List FileBytes
-    pub files_are : files ≡ first_files ++ last_files
-    pub lefts_are : lefts ≡ first_lefts ++ last_lefts
-    pub entries : List Entry
-    pub mid : Place A D
-    pub each : ImportsEach limits head records first_files first_lefts entries old mid
-    pub ran : Replays limits old.repo entries mid.repo
-    pub settled : IsSettled seen may_leave head (records ++ entries) mid.log
-    pub place_is : place ≡ length records + length entries
-    pub ends : EndsSo stop limits head (records ++ entries) last_files last_lefts mid new
+-- Bundles of files were brought into a store of these records. The pushes of the first files are done, one after the
+-- other: these are their records, which are on the device behind the others, in their order, and they lead from the
+-- repository before to one. Then it ended, so.
+pub record ImportsFiles {D : Type 0} (seen : D → List ℕ) (may_leave : D → List ℕ → Type 0) (moment : D → ℕ)
+    (left_since : D → ℕ → List ℕ → Type 0) {A : Type 0} (limits : Limits) (head : Head) (records : List Entry)
+    (files lefts : List FileBytes) (old new : Place A D) (place : ℕ) (stop : Option (ImportStop A)) : Type 0 where
+  pub first_files : List FileBytes
+  pub first_lefts : List FileBytes
+  pub last_files : List FileBytes
+  pub last_lefts : List FileBytes
+  pub files_are : files ≡ first_files ++ last_files
+  pub lefts_are : lefts ≡ first_lefts ++ last_lefts
+  pub entries : List Entry
+  pub mid : Place A D
+  pub each : ImportsEach seen may_leave moment left_since limits head records first_files first_lefts entries old mid
+  pub ran : Replays limits old.repo entries mid.repo
+  pub settled : IsSettled seen may_leave head (records ++ entries) mid.log
+  pub place_is : place ≡ length records + length entries
+  pub ends : EndsSo seen may_leave moment left_since stop limits head (records ++ entries) last_files last_lefts mid new

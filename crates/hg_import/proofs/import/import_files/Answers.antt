@@ -1,25 +1,31 @@
-use Rattle.std.proofs.Common.{rules, ◌≡◌, ◌+◌, ◌<◌, [], List, IfErr, IfOk, OnErr, OnOk, length, map, take, vec_capacity, vec_len, ℕ, ◌-◌, ◌*◌, ◌≤◌, ◌/◌, ◌%◌, Bool, true, false, nat_eq, nat_lt, ◌∷◌, ◌++◌, slice_index_or, slice_set, bit_and, bit_or, Fits, w8, w32, w64, Bor, MutBor}
-use Rattle.hg_types.specs.Limits.{IsAllowed}
-use Rattle.hg_store.specs.Entries.{Entry}
-use Rattle.hg_store.specs.Log.{IsSettled}
-use Rattle.hg_store.specs.Records.{IsSized}
-use Rattle.hg_store.specs.declared.head.Head.{Head}
-use Rattle.hg_import.specs.Imports.{Adds, Imports, ImportsFiles, MayAdd, IsNotDone, IsUnwritten, IsWritten, PushesFile, GivesFront, IsToldSo, IsUnread, Stops}
-use Rattle.hg_import.specs.Statuses.{reason_status, stop_status}
+use Rattle.std.proofs.Common.{ap, arith, ◌∙◌}
+use Rattle.hg_types.specs.declared.limits.Settings.{Settings}
+use Rattle.std.proofs.lemmas.List.{length-map}
+use Rattle.hg_import.proofs.Rows.{all_brought, none_brought, file_brought, file_stopped}
 use Rattle.hg_import.proofs.import.import_files.Goals as goal
 
--- src/import.rt:108:5
 pub loop-file-init : goal.loop-file-init
-loop-file-init g c = ?
+loop-file-init g c = none_brought g.D.Device.seen g.D.Device.may_leave g.D.Device.moment g.D.Device.left_since
+    c.args.repo.now.settings.limits _ _ _
 
--- src/import.rt:111:26
 pub returns-in-Err : goal.returns-in-Err
-returns-in-Err g c = ?
+returns-in-Err g c = file_stopped g.D.Device.seen g.D.Device.may_leave g.D.Device.moment g.D.Device.left_since
+    c.args.repo.now.settings.limits c.loop-file.repo.settings.limits (λ f. g.I.Read.remaining f) _ c.loop-file.files
+    c.loop-file.file-index _ _ c.file-item.result c.import_file.new.file _ _
+    (omega (arith, c.loop-file-test.true, c.loop-file.auto.files)) c.file-item.is
+    (ap (λ (s : Settings). s.limits) c.loop-file.invariant.settings) c.loop-file.invariant c.in-Err.stop _
+    c.in-Err.ensures.stops
 
--- src/import.rt:108:5
 pub loop-file-preserved : goal.loop-file-preserved
-loop-file-preserved g c = ?
+loop-file-preserved g c = file_brought g.D.Device.seen g.D.Device.may_leave g.D.Device.moment g.D.Device.left_since
+    c.args.repo.now.settings.limits c.loop-file.repo.settings.limits (λ f. g.I.Read.remaining f) _ c.loop-file.files
+    c.loop-file.file-index _ _ c.file-item.result c.import_file.new.file _ _
+    (omega (arith, c.loop-file-test.true, c.loop-file.auto.files)) c.file-item.is
+    (ap (λ (s : Settings). s.limits) c.loop-file.invariant.settings) c.loop-file.invariant c.in-Ok.next _
+    (c.import_file.ensures.settings ∙ c.loop-file.invariant.settings) c.in-Ok.ensures.done c.in-Ok.ensures.next
 
--- src/import.rt:87:1
 pub returns : goal.returns
-returns g c = ?
+returns g c = all_brought g.D.Device.seen g.D.Device.may_leave g.D.Device.moment g.D.Device.left_since
+    c.args.repo.now.settings.limits _ _ c.loop-file.file-index _ _ _ _
+    (omega (arith, c.loop-file-test.false, c.loop-file.auto.files,
+    length-map c.loop-file.files (λ f. g.I.Read.remaining f))) c.loop-file.invariant
