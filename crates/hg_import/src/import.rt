@@ -69,13 +69,7 @@ fn reason_status<A: Allocator>(reason: &Reason<Refusal<A>>) -> u8
     match reason {
         Reason::NoMemory => 4,
         Reason::Cut(CutReason::ReadFailed) => 3,
-        Reason::Cut(CutReason::Stream(fault)) => {
-            if *fault == NO_MEMORY {
-                4
-            } else {
-                1
-            }
-        }
+        Reason::Cut(CutReason::Stream(fault)) => { if *fault == NO_MEMORY { 4 } else { 1 } }
         _ => 1,
     }
 }

@@ -65,12 +65,7 @@ impl Read for Stuck<'_> {
 }
 
 /// How many records a crash leaves in a store, where they are the first of these bundles, with the time and no name.
-pub fn count_kept(
-    alloc: Global,
-    device: &Memory,
-    part: usize,
-    bundles: &[&[u8]],
-) -> Option<usize> {
+pub fn count_kept(alloc: Global, device: &Memory, part: usize, bundles: &[&[u8]]) -> Option<usize> {
     let file = device.crashed(part).ok()?;
     let mut device = Memory::new(alloc, &file, 9).ok()?;
     let found = recover(alloc, &mut device, &mut Drawer::new(alloc)).ok()?;

@@ -91,10 +91,20 @@ fn files_in_a_row(rt: HostRuntime) -> Result<(), Fail> {
             Source::failing(&two, step, 1, true),
         ];
         let mut sink = Sink::new(alloc);
-        let came = bring(alloc, alloc, RandomState::new(&rt)?, &mut log, &mut files, &mut sink)?;
+        let came = bring(
+            alloc,
+            alloc,
+            RandomState::new(&rt)?,
+            &mut log,
+            &mut files,
+            &mut sink,
+        )?;
         assert_eq!(rt; (came.place, came.status, came.markers), (3, 0, 2));
         assert_eq!(rt; came.lines.as_slice(), b"0\n1\n2\n".as_slice());
-        assert_eq!(rt; count_kept(alloc, &log.device, 0, &[&one, EMPTY, &two]), Some(3));
+        assert_eq!(rt;
+            count_kept(alloc, &log.device, 0, &[&one, EMPTY, &two]),
+            Some(3)
+        );
     }
     Ok(())
 }
@@ -103,7 +113,10 @@ fn files_in_a_row(rt: HostRuntime) -> Result<(), Fail> {
 #[test]
 fn no_file(rt: HostRuntime) -> Result<(), Fail> {
     let (came, kept) = came_of(rt.alloc(), RandomState::new(&rt)?, &[], &[])?;
-    assert_eq!(rt; (came.place, came.status, came.markers, kept), (0, 0, 0, Some(0)));
+    assert_eq!(rt;
+        (came.place, came.status, came.markers, kept),
+        (0, 0, 0, Some(0))
+    );
     assert!(rt; came.lines.is_empty());
     Ok(())
 }
@@ -117,7 +130,14 @@ fn the_first_that_is_not_done(rt: HostRuntime) -> Result<(), Fail> {
     let mut log = new_log(alloc, MANY).ok_or(AllocError)?;
     let mut files = [Source::new(&one), Source::new(RACE), Source::new(&two)];
     let mut sink = Sink::new(alloc);
-    let came = bring(alloc, alloc, RandomState::new(&rt)?, &mut log, &mut files, &mut sink)?;
+    let came = bring(
+        alloc,
+        alloc,
+        RandomState::new(&rt)?,
+        &mut log,
+        &mut files,
+        &mut sink,
+    )?;
     assert_eq!(rt; (came.place, came.status, came.markers), (1, 1, 1));
     assert_eq!(rt; came.lines.as_slice(), b"0\nheads changed\n".as_slice());
     assert_eq!(rt; count_kept(alloc, &log.device, 0, &[&one]), Some(1));
@@ -137,7 +157,10 @@ fn torn_bundles(rt: HostRuntime) -> Result<(), Fail> {
             &[EMPTY, &one[..size], &two],
             &[EMPTY],
         )?;
-        assert_eq!(rt; (came.place, came.status, came.markers, kept), (1, 1, 0, Some(1)));
+        assert_eq!(rt;
+            (came.place, came.status, came.markers, kept),
+            (1, 1, 0, Some(1))
+        );
         assert_eq!(rt; came.lines.as_slice(), b"0\nstream fault 10\n".as_slice());
     }
     Ok(())
@@ -150,8 +173,16 @@ fn bytes_behind_an_end_mark(rt: HostRuntime) -> Result<(), Fail> {
     let (one, two) = (marked(1), marked(2));
     let mut long = [7; MARKED + 5];
     long[..MARKED].copy_from_slice(&one);
-    let (came, kept) = came_of(rt.alloc(), RandomState::new(&rt)?, &[&long, &two], &[&one, &two])?;
-    assert_eq!(rt; (came.place, came.status, came.markers, kept), (2, 0, 2, Some(2)));
+    let (came, kept) = came_of(
+        rt.alloc(),
+        RandomState::new(&rt)?,
+        &[&long, &two],
+        &[&one, &two],
+    )?;
+    assert_eq!(rt;
+        (came.place, came.status, came.markers, kept),
+        (2, 0, 2, Some(2))
+    );
     assert_eq!(rt; came.lines.as_slice(), b"0\n1\n".as_slice());
     Ok(())
 }
@@ -186,7 +217,10 @@ fn reasons(rt: HostRuntime) -> Result<(), Fail> {
     for (bundle, line) in &UNDONE {
         let (came, kept) = came_of(rt.alloc(), RandomState::new(&rt)?, &[bundle], &[])?;
         assert_eq!(rt; came.lines.as_slice(), *line);
-        assert_eq!(rt; (came.place, came.status, came.markers, kept), (0, 1, 0, Some(0)));
+        assert_eq!(rt;
+            (came.place, came.status, came.markers, kept),
+            (0, 1, 0, Some(0))
+        );
     }
     Ok(())
 }
@@ -205,9 +239,20 @@ fn a_store_that_fails(rt: HostRuntime) -> Result<(), Fail> {
         let Some(mut log) = new_log(alloc, calls) else {
             continue;
         };
-        let mut files = [Source::new(all[0]), Source::new(all[1]), Source::new(all[2])];
+        let mut files = [
+            Source::new(all[0]),
+            Source::new(all[1]),
+            Source::new(all[2]),
+        ];
         let mut sink = Sink::new(alloc);
-        let came = bring(alloc, alloc, RandomState::new(&rt)?, &mut log, &mut files, &mut sink)?;
+        let came = bring(
+            alloc,
+            alloc,
+            RandomState::new(&rt)?,
+            &mut log,
+            &mut files,
+            &mut sink,
+        )?;
         let done = came.place;
         assert!(rt; done <= 3);
         assert_eq!(rt; came.lines.as_slice(), &b"0\n1\n2\n"[..2 * done]);
@@ -232,7 +277,14 @@ fn a_file_that_fails(rt: HostRuntime) -> Result<(), Fail> {
         let mut log = new_log(alloc, MANY).ok_or(AllocError)?;
         let mut files = [Stuck::new(EMPTY, MARKED), Stuck::new(&one, good)];
         let mut sink = Sink::new(alloc);
-        let came = bring(alloc, alloc, RandomState::new(&rt)?, &mut log, &mut files, &mut sink)?;
+        let came = bring(
+            alloc,
+            alloc,
+            RandomState::new(&rt)?,
+            &mut log,
+            &mut files,
+            &mut sink,
+        )?;
         assert_eq!(rt; (came.place, came.status, came.markers), (1, 3, 0));
         assert_eq!(rt; came.lines.as_slice(), b"0\nread failed\n".as_slice());
         assert_eq!(rt; count_kept(alloc, &log.device, 0, &[EMPTY]), Some(1));
@@ -252,11 +304,21 @@ fn a_writer_that_fails(rt: HostRuntime) -> Result<(), Fail> {
         let mut log = new_log(alloc, MANY).ok_or(AllocError)?;
         let mut files = [Source::new(&one), Source::new(&two), Source::new(RACE)];
         let mut sink = Sink::failing(alloc, room, true);
-        let came = bring(alloc, alloc, RandomState::new(&rt)?, &mut log, &mut files, &mut sink)?;
+        let came = bring(
+            alloc,
+            alloc,
+            RandomState::new(&rt)?,
+            &mut log,
+            &mut files,
+            &mut sink,
+        )?;
         let told = (room / 2).min(2);
         assert_eq!(rt; (came.place, came.status), (told, 3));
         assert_eq!(rt; came.lines.as_slice(), &whole[..room]);
-        assert_eq!(rt; count_kept(alloc, &log.device, 0, &[&one, &two]), Some((told + 1).min(2)));
+        assert_eq!(rt;
+            count_kept(alloc, &log.device, 0, &[&one, &two]),
+            Some((told + 1).min(2))
+        );
     }
     Ok(())
 }
@@ -281,7 +343,10 @@ fn memory_is_refused(rt: HostRuntime) -> Result<(), Fail> {
         assert_eq!(rt; came.status, if done < 2 { 4 } else { 0 });
         assert_eq!(rt; came.markers, done);
         assert!(rt; came.lines.starts_with(&b"0\n1\n"[..2 * done]));
-        assert_eq!(rt; count_kept(alloc, &log.device, 0, &[&one, &two]), Some(done));
+        assert_eq!(rt;
+            count_kept(alloc, &log.device, 0, &[&one, &two]),
+            Some(done)
+        );
         seen[done] = true;
     }
     assert!(rt; seen == [true; 3]);

@@ -79,7 +79,13 @@ fn open<R: Files<File = File> + AllocGlobal + Eprint>(
     ensures { IfOk result (λ recovered. IsOpened ⟦<StoreFile<HostFile> as Device>⟧.seen
         ⟦<StoreFile<HostFile> as Device>⟧.may_leave recovered) }
 {
-    open_store(rt, state, hosting.store, hosting.publishing, hosting.existing)
+    open_store(
+        rt,
+        state,
+        hosting.store,
+        hosting.publishing,
+        hosting.existing,
+    )
 }
 
 /// Binds the address, and serves what was recovered. Where the numbers of pushes come to their end, the store is

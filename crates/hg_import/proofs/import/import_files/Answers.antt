@@ -27,5 +27,9 @@ loop-file-preserved g c = file_brought g.D.Device.seen g.D.Device.may_leave g.D.
 pub returns : goal.returns
 returns g c = all_brought g.D.Device.seen g.D.Device.may_leave g.D.Device.moment g.D.Device.left_since
     c.args.repo.now.settings.limits _ _ c.loop-file.file-index _ _ _ _
-    (omega (arith, c.loop-file-test.false, c.loop-file.auto.files,
-    length-map c.loop-file.files (λ f. g.I.Read.remaining f))) c.loop-file.invariant
+    (omega (
+      arith,
+      c.loop-file-test.false,
+      c.loop-file.auto.files,
+      length-map c.loop-file.files (λ f. g.I.Read.remaining f),
+    )) c.loop-file.invariant
