@@ -44,7 +44,8 @@ module _ {A : Type 0} (u v : Unbundler A) (bytes : List ℕ) (count : ℕ)
   }
 
   -- it took all, and has not ended
-  pub truncated_shown : (state : State) → state_of v ≡ state → state ≢ Ended → (state ≡ Reading → count ≡ length bytes)
+  pub truncated_shown : (state : State) → state_of v ≡ state → state ≢ Ended
+      → (state ≡ Reading → count ≡ length bytes)
       → ((fault : StreamFault) → state ≢ Failed fault) → ShowsFault A Truncated (limits_of u) bytes
   truncated_shown Ended is not all fails = absurd (not refl)
   truncated_shown (Failed fault) is not all fails = absurd (fails fault refl)

@@ -1,6 +1,8 @@
 -- Files that are brought in, one after the other.
-use Rattle.std.proofs.Common.{ℕ, ◌≡◌, ◌+◌, ◌<◌, ◌≤◌, List, [], ◌∷◌, ◌++◌, refl, sym, ◌∙◌, ap, subst, arith, Some, None}
-use Rattle.std.proofs.Common.{length, map, take, drop, set, get_or, append_assoc, length-append, length-drop, take-append-drop}
+use Rattle.std.proofs.Common.{ℕ, ◌≡◌, ◌+◌, ◌<◌, ◌≤◌, List, [], ◌∷◌, ◌++◌, refl, sym, ◌∙◌, ap, subst, arith}
+use Rattle.std.proofs.Common.{Some, None}
+use Rattle.std.proofs.Common.{length, map, take, drop, set, get_or, append_assoc, length-append, length-drop}
+use Rattle.std.proofs.Common.{take-append-drop}
 use Rattle.std.proofs.lemmas.List.{append-nil, drop-set-lt, drop_more, get_or-map, length-map, map-set}
 use Rattle.std.proofs.lemmas.List.{take_all, take_more, take_more_set}
 use Rattle.std.proofs.lemmas.Grind.{drop_more_same}
@@ -89,7 +91,8 @@ module _ {A D : Type 0} (seen : D → List ℕ) (may_leave : D → List ℕ → 
     pub brought : (head : Head) (records : List Entry) → IsSettled seen may_leave head records old.log
         → stored ≡ length records → Brought head records (take at files) (take at now) place old new
 
-  pub none_brought : (files : List FileBytes) (stored : ℕ) (old : Place A D) → Brings files files 0 stored stored old old
+  pub none_brought : (files : List FileBytes) (stored : ℕ) (old : Place A D)
+      → Brings files files 0 stored stored old old
   none_brought files stored old = record {
     settings = refl;
     rest = refl;
@@ -97,13 +100,15 @@ module _ {A D : Type 0} (seen : D → List ℕ) (may_leave : D → List ℕ → 
       entries = [];
       each = refl;
       ran = refl;
-      settled = subst (λ (rs : List Entry). IsSettled seen may_leave head rs old.log) (sym (append-nil records)) settled;
+      settled = subst (λ (rs : List Entry). IsSettled seen may_leave head rs old.log) (sym (append-nil records))
+          settled;
       place_is = omega (arith, is);
     };
   }
 
   module _ (files now : List FileBytes) (at stored place : ℕ) (file left : FileBytes) (old mid : Place A D)
-      (below : at < length now) (here : get_or now at file ≡ file) (p : Brings files now at stored place old mid) where
+      (below : at < length now) (here : get_or now at file ≡ file)
+      (p : Brings files now at stored place old mid) where
     within : at < length files
     within = omega (
       arith,
@@ -123,7 +128,8 @@ module _ {A D : Type 0} (seen : D → List ℕ) (may_leave : D → List ℕ → 
     heads = sym now_is ∙ p.rest ∙ files_are
 
     same : get_or files at file ≡ file
-    same = sym (heads_same (get_or now at file) (get_or files at file) (drop (at + 1) now) (drop (at + 1) files) heads)
+    same = sym (heads_same (get_or now at file) (get_or files at file) (drop (at + 1) now) (drop (at + 1) files)
+        heads)
         ∙ here
 
     -- the file there is brought in too
@@ -230,9 +236,11 @@ module _ {A D T : Type 0} (seen : D → List ℕ) (may_leave : D → List ℕ �
       → place ≡ length records → (entry : Entry)
       × Imports seen may_leave moment left_since own head records (told reader) (told after) entry mid new)
       → next ≡ place + 1
-      → Brings seen may_leave moment left_since limits files (map told (set readers at after)) (at + 1) stored next old new
+      → Brings seen may_leave moment left_since limits files (map told (set readers at after)) (at + 1) stored next
+      old new
   file_brought next new settings one is =
-      subst (λ (l : List FileBytes). Brings seen may_leave moment left_since limits files l (at + 1) stored next old new)
+      subst (λ (l : List FileBytes). Brings seen may_leave moment left_since limits files l (at + 1) stored next old
+      new)
       (sym (map-set told readers at after))
       (slot_brought seen may_leave moment left_since limits files (map told readers) at stored place (told reader)
       (told after) old mid within_map here_map p next new settings
@@ -246,8 +254,8 @@ module _ {A D T : Type 0} (seen : D → List ℕ) (may_leave : D → List ℕ �
       → Stops seen may_leave moment left_since stop own head records (told reader) (told after) mid new)
       → (head : Head) (records : List Entry) → IsSettled seen may_leave head records old.log
       → stored ≡ length records
-      → ImportsFiles seen may_leave moment left_since limits head records files (map told (set readers at after)) old new
-      place (Some stop)
+      → ImportsFiles seen may_leave moment left_since limits head records files (map told (set readers at after))
+      old new place (Some stop)
   file_stopped stop new stops head records settled stored_is =
       subst (λ (l : List FileBytes). ImportsFiles seen may_leave moment left_since limits head records files l old new
       place (Some stop)) (sym (map-set told readers at after))

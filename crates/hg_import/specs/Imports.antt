@@ -46,8 +46,8 @@ pub record PushesFile {A : Type 0} (limits : Limits) (first : RepositoryOf A) (f
 abbrev pub IsUnread : {A : Type 0} → Reason (Refusal A) → Type 0
 IsUnread reason = (reason ≡ Cut ReadFailed) ⊎ (reason ≡ without_memory)
 
--- Why the push of a file is not done on a repository: its bytes are not had, of which nothing more is said; or its front
--- says why.
+-- Why the push of a file is not done on a repository: its bytes are not had, of which nothing more is said; or its
+-- front says why.
 abbrev pub IsNotDone : {A : Type 0} → Reason (Refusal A) → Limits → RepositoryOf A → FileBytes → FileBytes → Type 0
 IsNotDone reason limits repo file left =
     IsUnread reason ⊎ ((bytes : List ℕ) × GivesFront limits file left bytes × IsUndone reason limits repo bytes)
@@ -76,8 +76,8 @@ pub record Place (A D : Type 0) : Type 0 where
 
 module _ {D : Type 0} (seen : D → List ℕ) (may_leave : D → List ℕ → Type 0) (moment : D → ℕ)
     (left_since : D → ℕ → List ℕ → Type 0) where
-  -- A store of these records was written to, for one more: at any moment a crash leaves these records, or these and that
-  -- one.
+  -- A store of these records was written to, for one more: at any moment a crash leaves these records, or these and
+  -- that one.
   abbrev pub MayAdd : Head → List Entry → Entry → Log D → Log D → Type 0
   MayAdd head records entry old new =
       LeavesOnly moment left_since old.device new.device (IsBeforeOrAfter head records (entry ∷ []))
@@ -114,10 +114,10 @@ module _ {D : Type 0} (seen : D → List ℕ) (may_leave : D → List ℕ → Ty
     pub same : new.repo ≡ old.repo
     pub unchanged : new.log ≡ old.log
 
-  -- Why it ended at a file, where the store has these records. The push is not done, and the reason was written. Or it
-  -- ran, and the store failed, which may have it or not; nothing was written then. Or a line was not taken: the place
-  -- of a push that is done, whose record is on the device, or the reason of one that is not. Or memory was refused for
-  -- a line, before anything was changed.
+  -- Why it ended at a file, where the store has these records. The push is not done, and the reason was written. Or
+  -- it ran, and the store failed, which may have it or not; nothing was written then. Or a line was not taken: the
+  -- place of a push that is done, whose record is on the device, or the reason of one that is not. Or memory was
+  -- refused for a line, before anything was changed.
   abbrev pub Stops : {A : Type 0} → ImportStop A → Limits → Head → List Entry → FileBytes → FileBytes → Place A D
       → Place A D → Type 0
   Stops (NotDone reason) limits head records file left old new =
@@ -158,4 +158,5 @@ pub record ImportsFiles {D : Type 0} (seen : D → List ℕ) (may_leave : D → 
   pub ran : Replays limits old.repo entries mid.repo
   pub settled : IsSettled seen may_leave head (records ++ entries) mid.log
   pub place_is : place ≡ length records + length entries
-  pub ends : EndsSo seen may_leave moment left_since stop limits head (records ++ entries) last_files last_lefts mid new
+  pub ends : EndsSo seen may_leave moment left_since stop limits head (records ++ entries) last_files last_lefts mid
+      new

@@ -18,8 +18,8 @@ use hg_stream::{State, StreamFault, Unbundler, all_parts};
 use hg_types::{CutReason, Limits, Part};
 use std::alloc::Allocator;
 
-/// Runs the bundle at the front of these bytes as a push, and says how many bytes it has: what follows its end mark is
-/// not of it. Of an `Err` the repository is as it was.
+/// Runs the bundle at the front of these bytes as a push, and says how many bytes it has: what follows its end mark
+/// is not of it. Of an `Err` the repository is as it was.
 pub fn run_bundle<A: Allocator + Copy>(
     alloc: A,
     repo: &mut Repo<A>,

@@ -225,10 +225,9 @@ fn reasons(rt: HostRuntime) -> Result<(), Fail> {
     Ok(())
 }
 
-// A device that fails.
-// M1, M2, M3, where the device fails after each number of calls. Result: so many lines as pushes were kept before the
-// failure, none for the one that failed; status 3; whatever a crash makes of the last writes, these records are there,
-// or that one too; each place of the failure is seen, and no failure.
+// A device that fails. M1, M2, M3, where the device fails after each number of calls. Result: so many lines as
+// pushes were kept before the failure, none for the one that failed; status 3; whatever a crash makes of the last
+// writes, these records are there, or that one too; each place of the failure is seen, and no failure.
 #[test]
 fn a_store_that_fails(rt: HostRuntime) -> Result<(), Fail> {
     let alloc = rt.alloc();
@@ -323,9 +322,8 @@ fn a_writer_that_fails(rt: HostRuntime) -> Result<(), Fail> {
     Ok(())
 }
 
-// Memory that is refused.
-// M1, M2 over heaps of 16 to 16,368 bytes. Result: out of memory at either, status 4, with the lines and the records of
-// those before it; or all; each of them is seen, and nothing else.
+// Memory that is refused. M1, M2 over heaps of 16 to 16,368 bytes. Result: out of memory at either, status 4, with
+// the lines and the records of those before it; or all; each of them is seen, and nothing else.
 #[test]
 fn memory_is_refused(rt: HostRuntime) -> Result<(), Fail> {
     let alloc = rt.alloc();

@@ -29,8 +29,8 @@ impl<R: Clock> Times for SystemTimes<'_, R> {
     }
 }
 
-/// Opens the store, and brings the bundles of the files into it, one after the other. Gives the status; what ends it is
-/// printed.
+/// Opens the store, and brings the bundles of the files into it, one after the other. Gives the status; what ends
+/// it is printed.
 pub fn import<R: Files<File = File> + Print + Eprint + AllocGlobal + Clock>(
     rt: &R,
     state: RandomState,
@@ -93,7 +93,8 @@ fn import_into<R: Files<File = File> + Print + Eprint + AllocGlobal + Clock>(
     }
 }
 
-/// The status where not all files were brought in, which is printed. Where the store failed, another may have changed it.
+/// The status where not all files were brought in, which is printed. Where the store failed, another may have
+/// changed it.
 fn stopped<R: Files<File = File> + Eprint>(
     rt: &R,
     file: &NamedFile<'_, R>,

@@ -10,8 +10,8 @@ use hg_store_tools::TornNote;
 use std::fs::{File, Files};
 use std::hash::RandomState;
 
-/// Opens the store in a folder. Where none is there it is made, or refused if it has to be there. What it had after its
-/// last whole record is kept, and that is printed.
+/// Opens the store in a folder. Where none is there it is made, or refused if it has to be there. What it had after
+/// its last whole record is kept, and that is printed.
 pub fn open_store<R: Files<File = File> + AllocGlobal + Eprint>(
     rt: &R,
     state: RandomState,
