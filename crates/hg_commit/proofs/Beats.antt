@@ -1,10 +1,12 @@
 -- A beat that was asked for, in the one order.
-use Rattle.std.proofs.Common.{ℕ, ◌≡◌, ◌⊎◌, ◌≤◌, ◌<◌, ◌+◌, ◌∙◌, List, [], ◌∷◌, ◌++◌, sym, ap, subst, inl, inr, ⊎_elim, append_assoc, append-nil, arith}
+use Rattle.std.proofs.Common.{ℕ, ◌≡◌, ◌⊎◌, ◌≤◌, ◌<◌, ◌+◌, ◌∙◌, List, [], ◌∷◌, ◌++◌, sym, ap, subst, inl, inr}
+use Rattle.std.proofs.Common.{⊎_elim, append_assoc, append-nil, arith}
 use Rattle.std.specs.Prelude.{Contains, IfSome, Option, None, Some}
 use Rattle.std.specs.Option.{SomeIff}
 use mathlib.Core.List.{IsPrefix}
 use Rattle.std.proofs.lemmas.List.Elements.{All-contains, Contains-push_cases, Contains-append_cases}
-use Rattle.hg_commit.specs.Orders.{AreNumbered, AreSeen, Asked, Asks, Began, begun_in, Came, Event, HasBeat, HasGrown, Promised, promises_in, ReceiptView}
+use Rattle.hg_commit.specs.Orders.{AreNumbered, AreSeen, Asked, Asks, Began, begun_in, Came, Event, HasBeat}
+use Rattle.hg_commit.specs.Orders.{HasGrown, Promised, promises_in, ReceiptView}
 use Rattle.hg_commit.specs.Clients.{AreWritten}
 use Rattle.hg_commit.specs.Promises.{Promise}
 

@@ -11,9 +11,11 @@ use lib.ListN.{get_elem?}
 use Rattle.atomic_table.specs.Table.{Me, State, step, keeps, opening, Allows, Enters, Splits, Joins}
 use Rattle.atomic_table.proofs.Lists.{at_set, set_again}
 use Rattle.hg_commit.specs.declared.known.Known.{Known}
-use Rattle.hg_commit.specs.Orders.{AreNumbered, Asked, asks_at, Began, begun_in, Came, comings_to, Event, Promised, promises_in}
+use Rattle.hg_commit.specs.Orders.{AreNumbered, Asked, asks_at, Began, begun_in, Came, comings_to, Event}
+use Rattle.hg_commit.specs.Orders.{Promised, promises_in}
 use Rattle.hg_commit.specs.Promises.{Promise}
-use Rattle.hg_commit.specs.code.Tallies.{AreAmong, arrives, asks, asks_first, begun_more, comes, CountAtMost, heard_from, IsTallied, keeper, KnownFits}
+use Rattle.hg_commit.specs.code.Tallies.{AreAmong, arrives, asks, asks_first, begun_more, comes, CountAtMost}
+use Rattle.hg_commit.specs.code.Tallies.{heard_from, IsTallied, keeper, KnownFits}
 use Rattle.hg_commit.specs.code.Tallies.{looks, one_more, raised, seat_with, shown_by, spent, united}
 
 off : false ≡ true → ⊥

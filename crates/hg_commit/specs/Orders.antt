@@ -1,5 +1,6 @@
 -- What happens at a tally, in one order: promises are made, requests come, writes begin, and beats are asked for.
-use Rattle.std.specs.Prelude.{ℕ, ◌≡◌, ◌⊎◌, ◌≤◌, ◌+◌, ◌==◌, ⊤, if◌then◌else◌, List, [], ◌∷◌, ◌++◌, All, Contains, IfSome, Option}
+use Rattle.std.specs.Prelude.{ℕ, ◌≡◌, ◌⊎◌, ◌≤◌, ◌+◌, ◌==◌, ⊤, if◌then◌else◌, List, [], ◌∷◌, ◌++◌, All}
+use Rattle.std.specs.Prelude.{Contains, IfSome, Option}
 use Rattle.std.specs.Coded.{Coded, coded_list, coded⊎, coded_ℕ, code_by}
 use mathlib.Core.List.{IsPrefix}
 use mathlib.Core.Logic.{inl, inr}

@@ -247,7 +247,8 @@ module _ (A : Type 0) (log : LogForm) where
     pub are : AreFramesOf A log place (take index records) frames
     pub sent : Appends before now frames
 
-  pub sending_none : (place : ℕ) (records : List Entry) (before : Option (List ℕ)) → HasSent place records 0 place before before
+  pub sending_none : (place : ℕ) (records : List Entry) (before : Option (List ℕ)) → HasSent place records 0 place
+      before before
   sending_none place records before =
       record { next_is = omega arith; frames = []; are = refl; sent = Appends-nil before }
 
@@ -450,7 +451,8 @@ module _ (A : Type 0) (log : LogForm) where
       step_unsynced fault same why =
           unsynced more (still ∙ found_is) (same ∙ durable_is) refl (sync_ends fault (first + length found) why)
 
-      module _ (shown : List Entry) (after : Option (List ℕ)) (synced : now_durable ≡ mid_found) (shown_is : shown ≡ more) where
+      module _ (shown : List Entry) (after : Option (List ℕ)) (synced : now_durable ≡ mid_found)
+          (shown_is : shown ≡ more) where
         pub step_sent : (next : ℕ) → SendsFrames A log place shown next taken after
             → Follows A log first next found durable now_found now_durable taken after
         step_sent next sends = record {

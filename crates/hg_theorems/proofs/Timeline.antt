@@ -1,13 +1,15 @@
 -- What happened at several servers, in one order: an answer that rests on a beat was asked for before the next server
 -- opened the store.
 use Rattle.std.proofs.Common.{ℕ, ◌≡◌, ◌⊎◌, ◌≤◌, ◌<◌, ◌+◌, ◌==◌, Bool, true, false, cond, List, [], ◌∷◌, ◌++◌, length}
-use Rattle.std.proofs.Common.{refl, sym, ◌∙◌, ap, subst, inl, inr, ⊎_elim, append_assoc, append-nil, eq-eqb, length-append, arith}
+use Rattle.std.proofs.Common.{refl, sym, ◌∙◌, ap, subst, inl, inr, ⊎_elim, append_assoc, append-nil, eq-eqb}
+use Rattle.std.proofs.Common.{length-append, arith}
 use Rattle.std.specs.Prelude.{All, Contains, if◌then◌else◌}
 use Rattle.std.proofs.lemmas.Bool.Decides.{eqb_tells, leb_tells}
 use Rattle.std.proofs.lemmas.List.Elements.{All-contains, Contains-append_cases, Contains-append_left}
 use Rattle.std.proofs.lemmas.List.Elements.{Contains-append_right, Contains-push_cases}
 use mathlib.Core.List.{IsPrefix}
-use Rattle.hg_commit.specs.Orders.{Asked, Asks, Began, begun_in, Came, Comes, Event, HasBeat, Promised, promises_in, ReceiptView}
+use Rattle.hg_commit.specs.Orders.{Asked, Asks, Began, begun_in, Came, Comes, Event, HasBeat, Promised}
+use Rattle.hg_commit.specs.Orders.{promises_in, ReceiptView}
 use Rattle.hg_commit.specs.Promises.{Promise}
 use Rattle.hg_theorems.specs.Holders.{CameBehind, Happening, HoldsAlone, IsMadeBehind, Opened, OpensFirst, order_of}
 use Rattle.hg_theorems.specs.Holders.{PromisesBehindWrites, Tallied, Wrote}

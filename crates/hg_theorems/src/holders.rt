@@ -7,7 +7,8 @@ ghost use Rattle.hg_commit.specs.Orders.{Comes, HasBeat, ReceiptView};
 ghost use Rattle.hg_commit.specs.Promises.{Promise};
 ghost use Rattle.hg_recovery.specs.Opening.{IsRecovered};
 ghost use Rattle.hg_theorems.specs.Holders.{AreInARow, CameBehind, EachHasAllBefore, Happening, HasAllOf, HasServed};
-ghost use Rattle.hg_theorems.specs.Holders.{HoldsAlone, OpensBetween, OpensFirst, order_of, PromisesBehindWrites, Server, TakesOver};
+ghost use Rattle.hg_theorems.specs.Holders.{HoldsAlone, OpensBetween, OpensFirst, order_of};
+ghost use Rattle.hg_theorems.specs.Holders.{PromisesBehindWrites, Server, TakesOver};
 
 use crate::recovery::{fronts_are_recovered, what_a_client_saw_done_is_recovered};
 use hg_recovery::laws::{a_front_of_records_runs, records_lead_to_one_repository};

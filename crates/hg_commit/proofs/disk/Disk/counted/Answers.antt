@@ -10,7 +10,8 @@ pub returns-clause-covered : goal.returns-clause-covered
 returns-clause-covered g c =
     let d = c.self.inside in
     let whole : d.is_broken ≡ false = ap (λ v. v.is_broken) c.self.view_is ∙ c.requires in
-    let has = subst (λ (l : List Promise). Contains l (record { count = d.count; moment = g.D.Device.moment d.log.device; write = d.ended }))
+    let has = subst (λ (l : List Promise). Contains l
+    (record { count = d.count; moment = g.D.Device.moment d.log.device; write = d.ended }))
     (sym c.grant.ensures.promised) (c.self.invariant.5 whole) in
     subst (λ (v : DiskView g.row.A.Denot g.row.D.Denot). Covers g.D.Device.seen g.D.Device.may_leave
     g.D.Device.moment g.J.Storing.head g.J.Storing.stored g.J.Naming.first
@@ -22,7 +23,8 @@ pub returns-clause-written : goal.returns-clause-written
 returns-clause-written g c =
     let d = c.self.inside in
     let whole : d.is_broken ≡ false = ap (λ v. v.is_broken) c.self.view_is ∙ c.requires in
-    let has = subst (λ (l : List Promise). Contains l (record { count = d.count; moment = g.D.Device.moment d.log.device; write = d.ended }))
+    let has = subst (λ (l : List Promise). Contains l
+    (record { count = d.count; moment = g.D.Device.moment d.log.device; write = d.ended }))
     (sym c.grant.ensures.promised) (c.self.invariant.5 whole) in
     subst (λ (v : DiskView g.row.A.Denot g.row.D.Denot). AreWritten c.grant.result v.count v.ended) c.self.view_is
     (record {
