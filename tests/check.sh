@@ -43,7 +43,7 @@ check 'a word that is not text' 2 "$room/nothing" 'error: a word of the command 
     "$(printf '\xff')"
 head -c 80 "$examples/first-push.hg20" > "$room/in"
 check 'a bundle that is cut short' 1 "$room/truncated" 'hg_pushd: push aborted' one
-for command in one replay serve host report log cut; do
+for command in one replay serve host import report log cut upgrade; do
     "$program" $command --help > "$room/help" || failed=1
     grep -q "^Example: hg_pushd $command " "$room/help" || wrong "the help of $command has no example"
 done

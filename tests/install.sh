@@ -45,7 +45,7 @@ fi
 
 # The manual has each command and option of the help, and no line that roff does not know.
 commands=$("$program" --help | sed -n '/^Commands:/,/^$/s/^  \([a-z]*\) .*/\1/p' | grep -v '^help$')
-for command in one replay serve host report log cut; do
+for command in one replay serve host import report log cut upgrade; do
     see "the program has $command" grep -qx "$command" <(echo "$commands")
 done
 words=$("$program" --help; for command in $commands; do "$program" "$command" --help; done)

@@ -43,6 +43,7 @@ PIECES = {
     "random bundles": ["bench/fuzz/run.sh", "60", "1"],
     "clients": ["tests/serve.sh"],
     "stores": ["tests/store.sh"],
+    "imports": ["tests/import.py"],
     "followers": ["tests/follow.py"],
     "what is synced": ["tests/synced.py"],
     "standbys": ["tests/standby.py"],

@@ -7,11 +7,13 @@
 mod archive;
 mod command;
 mod hosting;
+mod importing;
 mod options;
 mod serving;
 mod telling;
 
 pub use command::{Job, job_of, usage_status};
 pub use hosting::Hosting;
+pub use importing::Importing;
 pub use serving::Serving;
 pub use telling::{asked_for, line_of, tell, words};

@@ -1,5 +1,5 @@
-//! The commands of `hg_pushd`, as functions that give a status: all except `host` and the command line
-//! itself.
+//! The commands of `hg_pushd`, as functions that give a status: all except `host`, `import` and the
+//! command line itself.
 //!
 //! [`one`] runs a bundle from standard input, [`replay`] the bundles of files, and [`serve`] the bundles of
 //! connections. [`hg_replay::run_one`] and [`hg_replay::run_replay`] are the first two from any readers to any
@@ -19,7 +19,7 @@ mod standard;
 
 pub use archive::{cut, follow, list, log, log_to, report, upgrade};
 pub use command_line::{
-    Hosting, Job, Serving, asked_for, job_of, line_of, tell, usage_status, words,
+    Hosting, Importing, Job, Serving, asked_for, job_of, line_of, tell, usage_status, words,
 };
 pub use commands::{one, replay, serve};
 pub use service::serve_on;

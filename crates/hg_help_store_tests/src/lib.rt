@@ -4,4 +4,5 @@
 
 pub mod device;
 pub mod drawer;
+pub mod folder;
 pub mod paper;

@@ -1,10 +1,10 @@
 //! A file in memory that loses and tears what was not synced.
 
-ghost use Rattle.std.specs.Prelude.{◌≡◌, [], ◌∷◌, IfOk};
+ghost use Rattle.std.specs.Prelude.{◌≡◌, ◌≤◌, [], ◌∷◌, IfOk, length};
+ghost use Rattle.hg_store.specs.Calls.{bytes_in};
 ghost use Rattle.hg_store.specs.History.{event_of};
 
 use hg_store::{Call, Calls, DeviceError, History, NewFile};
-use hg_types::Seq;
 use std::alloc::{AllocError, Allocator, Global};
 use std::io;
 
@@ -28,6 +28,11 @@ pub struct Paper {
     /// Whether it was given the name of a store, or may have got it by a call that failed.
     pub is_named: bool,
     history: History,
+    /// How many bytes were read since it was begun.
+    at: usize,
+    /// Whether its end was met.
+    is_over: bool,
+    pieces: History,
 }
 
 impl Paper {
@@ -44,6 +49,9 @@ impl Paper {
             room: usize::MAX,
             is_named: false,
             history: History::new(),
+            at: 0,
+            is_over: false,
+            pieces: History::new(),
         })
     }
 
@@ -93,24 +101,40 @@ impl Paper {
         self.steps = Vec::new(self.alloc);
         Ok(())
     }
-
-    fn read_all<A: Allocator + Copy>(&mut self, alloc: A) -> Result<Vec<u8, A>, DeviceError>
-        ensures { self.new.history ≡ self.old.history }
-    {
-        if self.call().is_err() {
-            return Err(DeviceError::Failed);
-        }
-        Ok(self.bytes.to_vec(alloc)?)
-    }
 }
 
 impl Calls for Paper {
     ghost history = { λ p. p.history.events };
 
-    fn begin<A: Allocator + Copy>(&mut self, alloc: A) -> Result<Seq<u8, A>, DeviceError> {
-        let bytes = self.read_all(alloc)?;
-        self.note(&Call::Began(&bytes));
-        Ok(Seq::from_vec(bytes))
+    ghost drawn = { λ p. bytes_in p.pieces.events };
+
+    ghost is_over = { λ p. p.is_over };
+
+    fn begin(&mut self) -> Result<(), DeviceError> {
+        if self.call().is_err() {
+            return Err(DeviceError::Failed);
+        }
+        self.at = 0;
+        self.is_over = false;
+        self.pieces = History::new();
+        Ok(())
+    }
+
+    fn read_on<A: Allocator>(
+        &mut self,
+        count: usize,
+        bytes: &mut Vec<u8, A>,
+    ) -> Result<(), DeviceError> {
+        let piece = piece_of(&self.bytes, self.at, count);
+        bytes.extend_from_slice(piece)?;
+        self.at = self.at.saturating_add(piece.len());
+        self.is_over = piece.len() < count;
+        self.pieces = self.pieces.and(&Call::Read(piece));
+        Ok(())
+    }
+
+    fn note_read(&mut self) {
+        self.history = self.history.and_read(&self.pieces);
     }
 
     fn write(&mut self, at: usize, bytes: &[u8]) -> io::Result<()> {
@@ -143,6 +167,14 @@ impl NewFile for Paper {
         self.note(&Call::Placed(answer.is_ok()));
         answer
     }
+}
+
+/// So many bytes from a place on, or those that there are, where they are fewer.
+fn piece_of(bytes: &[u8], at: usize, count: usize) -> &[u8]
+    ensures { length result.now ≤ count }
+{
+    let behind = &bytes[at.min(bytes.len())..];
+    &behind[..count.min(behind.len())]
 }
 
 /// Puts bytes over those from a place on, and past the end; a gap before them is filled with 0.

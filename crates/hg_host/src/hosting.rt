@@ -4,7 +4,7 @@ ghost use Rattle.std.specs.Prelude.{◌≡◌, ℕ, [], length, IfSome, None};
 ghost use Rattle.hg_store.specs.Log.{IsSettled};
 ghost use Rattle.hg_serve.specs.Desks.{OpensWith};
 ghost use Rattle.hg_commit.specs.Receipts.{IsTallyOf};
-ghost use Rattle.hg_recovery.specs.Opening.{head_of, records_of, IsOpened, IsRecovered};
+ghost use Rattle.hg_recovery.specs.Opening.{head_of, IsOpened, IsRecovered};
 ghost use Rattle.hg_host.specs.Serving.{EndsHost};
 
 use crate::runtime::HostingRuntime;
@@ -226,7 +226,7 @@ where
     R: HostingRuntime,
     requires { IsOpened D.seen D.may_leave recovered }
     ensures { (capacity : ℕ) × IfSome result.left (EndsHost D.seen D.may_leave D.moment D.left_since capacity
-        recovered.repo (head_of recovered.publishing recovered.identity) (records_of recovered.records.items)
+        recovered.repo (head_of recovered.publishing recovered.identity) recovered.records.entries
         (D.moment recovered.log.device) ⟦<Board<'a, R> as Shown<Global>>⟧.is_page
         ⟦<Board<'a, R> as Shown<Global>>⟧.are_metrics terms.entry.shared) }
 {

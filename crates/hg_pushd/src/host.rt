@@ -3,13 +3,13 @@
 ghost use Rattle.std.specs.Prelude.{IfOk};
 ghost use Rattle.hg_recovery.specs.Opening.{IsOpened};
 
+use crate::opened::{not_opened, open_store, store_failed};
 use hg_commands::{Hosting, device_status, tell};
 use hg_host::{
     Ended, HookAddress, HookTerms, HostTerms, HostingRuntime, Over, answer_as_standby, serve_store,
 };
-use hg_recovery::{IfMissing, OpeningFault, Recovered, recover_store};
-use hg_store::{Device, HostFile, KeptTail, StoreFault, StoreFile, StoreFolder};
-use hg_store_tools::TornNote;
+use hg_recovery::{OpeningFault, Recovered};
+use hg_store::{Device, HostFile, StoreFault, StoreFile};
 use std::fs::{File, Files};
 use std::hash::RandomState;
 use std::io;
@@ -70,8 +70,7 @@ fn printed<R: Eprint>(rt: &R, status: u8) -> u8 {
     status
 }
 
-/// Opens the store. Where none is there it is made, or refused if it has to be there. What it had after its last whole
-/// record is kept, and that is printed.
+/// Opens the store that is to be served.
 fn open<R: Files<File = File> + AllocGlobal + Eprint>(
     rt: &R,
     state: RandomState,
@@ -80,32 +79,13 @@ fn open<R: Files<File = File> + AllocGlobal + Eprint>(
     ensures { IfOk result (λ recovered. IsOpened ⟦<StoreFile<HostFile> as Device>⟧.seen
         ⟦<StoreFile<HostFile> as Device>⟧.may_leave recovered) }
 {
-    let mut folder = StoreFolder::new(rt, hosting.store);
-    let if_missing = if hosting.existing {
-        IfMissing::Refuse
-    } else {
-        IfMissing::Create
-    };
-    let recovered = recover_store(
-        rt.alloc(),
+    open_store(
+        rt,
         state,
-        &mut folder,
+        hosting.store,
         hosting.publishing,
-        if_missing,
-    );
-    if let Some(kept) = folder.kept() {
-        print_kept(rt, hosting.store, kept);
-    }
-    recovered
-}
-
-/// Prints where the tail of a store is kept.
-fn print_kept<R: Eprint>(rt: &R, folder: &str, kept: KeptTail) {
-    let size = kept.size;
-    let place = kept.place;
-    let _ = eprintln!(rt;
-        "hg_pushd: {folder}/pushes: {place} pushes are whole; {size} bytes behind them are kept in {folder}/{kept}"
-    );
+        hosting.existing,
+    )
 }
 
 /// Binds the address, and serves what was recovered. Where the numbers of pushes come to their end, the store is
@@ -263,20 +243,6 @@ fn print_listening<R: Eprint>(
     }
 }
 
-/// The status where the store was not opened, which is printed.
-fn not_opened<R: Eprint>(rt: &R, folder: &str, fault: &OpeningFault) -> u8 {
-    let status = fault.status();
-    if status == 4 {
-        tell(rt, status);
-    } else if let Some(whole) = fault.whole_before_torn() {
-        let note = TornNote { folder, whole };
-        let _ = eprintln!(rt; "hg_pushd: {note}");
-    } else {
-        let _ = eprintln!(rt; "hg_pushd: {folder}/pushes: {fault}");
-    }
-    status
-}
-
 /// The status where the address was not bound, which is printed.
 fn not_bound<R: Eprint>(rt: &R, listen: &str, error: &io::Error) -> u8 {
     let status = device_status(error);
@@ -296,11 +262,7 @@ fn status_at<R: Eprint>(rt: &R, over: Over, is_foreign: bool) -> u8 {
             4
         }
         Over::StoreFailed | Over::NumbersEnd => {
-            if is_foreign {
-                let _ = eprintln!(rt; "hg_pushd: the store was changed by another");
-            } else {
-                let _ = eprintln!(rt; "hg_pushd: the store failed");
-            }
+            store_failed(rt, is_foreign);
             3
         }
     }

@@ -1,16 +1,17 @@
 //! The program `hg_pushd`: pushes onto a repository that is empty at first.
 //!
 //! `hg_pushd one` reads a bundle from standard input, runs it and writes the reply bundle to standard output.
-//! `hg_pushd replay` runs the bundles of files, one after the other, and writes a report of what the
-//! repository then holds. `hg_pushd serve` accepts connections and serves each on a thread. `hg_pushd report`,
-//! `hg_pushd log` (also as it follows one), `hg_pushd cut` and `hg_pushd upgrade` read a store, end it, and write it
-//! anew. All of these are
-//! functions of `hg_commands`.
-//! `hg_pushd host` answers HTTP, and keeps each push in a store: [`host`] begins it, over `hg_host`. The command
-//! line is read by `hg_commands`.
+//! `hg_pushd replay` runs the bundles of files, one after the other, and writes a report of what the repository
+//! then holds. `hg_pushd serve` accepts connections and serves each on a thread. `hg_pushd report`, `hg_pushd log`
+//! (also as it follows one), `hg_pushd cut` and `hg_pushd upgrade` read a store, end it, and write it anew. All of
+//! these are functions of `hg_commands`. `hg_pushd host` answers HTTP, and keeps each push in a store: [`host`]
+//! begins it, over `hg_host`. `hg_pushd import` brings the bundles of files into a store: [`import`], over
+//! `hg_import`. The command line is read by `hg_commands`.
 #![tactic(auto)]
 
 mod host;
+mod import;
+mod opened;
 
 use hg_commands::{
     Job, asked_for, cut, device_status, follow, list, log, log_to, one, replay, report, serve,
@@ -45,6 +46,7 @@ where
         Job::Replay { publishing, files } => printed(rt, replay(rt, state, *publishing, files)),
         Job::Serve(serving) => printed(rt, serve(rt, state, serving)),
         Job::Host(hosting) => host::host(rt, state, hosting),
+        Job::Import(importing) => import::import(rt, state, importing),
         Job::Report { store } => write_report(rt, state, store),
         Job::Log {
             store,

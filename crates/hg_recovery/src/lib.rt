@@ -7,9 +7,10 @@
 //!
 //! A store that is opened, and the repository that its records lead to.
 //!
-//! [`recover_store`] opens a store in a folder, or makes it, and runs its records, one by one, on the empty
-//! repository; [`recover_records`] does so for a log over any device that is open. What both give is
-//! [`Recovered`]: the log, for more records, and the repository. [`OpeningFault`] says why a store is not opened.
+//! [`recover_store`] opens a store in a folder, or makes it, and runs its records as they are read, one by one, on the
+//! empty repository, in memory for one of them. What it gives is [`Recovered`]: the log, for more records, and the
+//! repository. [`OpeningFault`] says why a store is not opened: then nothing in it was changed, unless a device failed
+//! at its end.
 //! Nothing here starts a thread, and nothing waits but a device.
 #![tactic(auto)]
 
@@ -18,6 +19,6 @@ mod opening;
 mod restore;
 
 pub use opening::{
-    IfMissing, OpeningFault, Recovered, empty_repository, recover_records, recover_store,
+    IfMissing, OpeningFault, Recovered, empty_repository, recover_store,
 };
 pub use restore::{RestoreFault, record_parts, replay_record, replay_records};

@@ -1,27 +1,23 @@
 //! A store that is opened, and the repository that its records lead to.
 
-ghost use Rattle.std.specs.Prelude.{◌≡◌, ◌⊎◌, [], IfErr, IfOk, IsErrOf};
+ghost use Rattle.std.specs.Prelude.{◌≡◌, ◌⊎◌, [], IfErr, IfOk, IsErrOf, MatchResult, OnOk};
 ghost use Rattle.hg_recovery.specs.declared.restore.RestoreFault.{RestoreFault as AnyRestoreFault};
-ghost use Rattle.hg_store.specs.Head.{head_for};
-ghost use Rattle.hg_store.specs.Log.{IsSettled};
-ghost use Rattle.hg_store.specs.Folders.{IsMadeWhereNone};
-ghost use Rattle.hg_store.specs.Openings.{IsFound, IsOfFolder, IsUnopened};
-ghost use Rattle.hg_store.specs.Tails.{LosesNothing};
+ghost use Rattle.hg_store.specs.Openings.{HasEnded, HasRead, IsFound, IsOfFolder, IsUnopened};
+ghost use Rattle.hg_store.specs.Tails.{LosesNothing, tails_in};
 ghost use Rattle.hg_store.specs.declared.start.StoreFault.{StoreFault as AnyStoreFault};
 ghost use Rattle.hg_recovery.specs.Faults.{status_of, whole_before_torn};
-ghost use Rattle.hg_recovery.specs.Opening.{empty_repository, head_of, records_of, setup_for, AreNamesIf, IsOpened};
-ghost use Rattle.hg_recovery.specs.Opening.{StopsOpening};
-ghost use Rattle.hg_recovery.specs.Opening.{StopsStored};
+ghost use Rattle.hg_recovery.specs.Opening.{empty_repository, head_of, setup_for, AreNamesIf, IsBegunIf, IsOpened};
+ghost use Rattle.hg_recovery.specs.Opening.{IsRecovered, StopsRead};
 ghost use Rattle.hg_types.specs.Limits.{IsAllowed};
 ghost use Rattle.hg_recovery.specs.declared.opening.OpeningFault.TheVariants.{Restore as unrestored, Store as no_store};
 
-use crate::restore::{RestoreFault, replay_records};
+use crate::restore::{RestoreFault, replay_record};
 use hg_repo::Repo;
 use hg_store::{
-    Calls, Device, DeviceError, Entry, HostFile, Log, Opened, ReadFault, RecoverFault, Setup,
-    StoreFault, StoreFile, StoreFolder, TailFault, create_store, open_store,
+    Calls, Device, DeviceError, HostFile, Log, NotedRecords, Opened, Opening, ReadFault,
+    RecoverFault, Setup, StoreFault, StoreFile, StoreFolder, TailFault, begin_store, create_store,
 };
-use hg_types::{Limits, Noted, Seq, Settings};
+use hg_types::{Limits, Settings};
 use std::alloc::{Allocator, Global};
 use std::fs::{File, Files};
 use std::hash::RandomState;
@@ -94,7 +90,7 @@ pub struct Recovered<D: Device> {
     /// How many records the store has.
     pub stored: usize,
     /// Its records, which only contracts see.
-    pub records: Noted<Seq<Entry>>,
+    pub records: NotedRecords,
 }
 
 /// What is done where a folder has no store.
@@ -106,9 +102,10 @@ pub enum IfMissing {
     Refuse,
 }
 
-/// Opens the store in a folder, and runs its records, one by one, on the empty repository. Where there is none it is
-/// made, or missing. It is held against other processes. A store that is refused is as it was. What one had after its
-/// last whole record is kept in a file beside it before it is cut off, unless each byte of it is 0.
+/// Opens the store in a folder: its records are read and run, one by one, on the empty repository, in memory for one of
+/// them. Where there is none it is made, or missing. It is held against other processes. A store that is refused is as
+/// it was, also where one of its records is not run. What one had after its last whole record is kept in a file beside it
+/// before it is cut off, unless each byte of it is 0.
 pub fn recover_store<R: Files<File = File>>(
     alloc: Global,
     state: RandomState,
@@ -122,7 +119,7 @@ pub fn recover_store<R: Files<File = File>>(
     // What is served is what the bytes give that were found: they stand for its records, and so does what a crash
     // leaves at any moment since they were read.
     ensures found { IfOk result (λ recovered. IsFound (head_of publishing recovered.identity)
-        (records_of recovered.records.items) [] (⟦<HostFile as Calls>⟧.history recovered.log.device.calls)) }
+        recovered.records.entries [] (⟦<HostFile as Calls>⟧.history recovered.log.device.calls)) }
 
     // No byte of the file is lost: what it had after its last whole record is only zeros, or was kept in the folder
     // before it was cut off.
@@ -132,20 +129,35 @@ pub fn recover_store<R: Files<File = File>>(
     // No new store takes the place of one that is there; and where that is refused, none is made.
     ensures names { AreNamesIf if_missing folder.old folder.new }
 
-    ensures stops { (fault : AnyRestoreFault) → IsErrOf result (unrestored fault) →
-        StopsStored Global ⟦<StoreFile<HostFile> as Device>⟧.seen ⟦<StoreFile<HostFile> as Device>⟧.may_leave
-        publishing fault }
+    // A record that is not run is found before anything is changed and before a tail is kept.
+    ensures stops { (fault : AnyRestoreFault) → IsErrOf result (unrestored fault) → (read : HostFile)
+        × (⟦<HostFile as Calls>⟧.history read ≡ []) × (tails_in folder.new ≡ tails_in folder.old)
+        × StopsRead Global publishing (⟦<HostFile as Calls>⟧.drawn read) fault }
     ensures unopened { (fault : AnyStoreFault) → IsErrOf result (no_store fault) → IsOfFolder fault
-        ⊎ ((read : HostFile) × IsUnopened fault (setup_for publishing) [] (⟦<HostFile as Calls>⟧.history read)
+        ⊎ ((read : HostFile) × IsUnopened fault (setup_for publishing) (⟦<HostFile as Calls>⟧.drawn read) []
+        (⟦<HostFile as Calls>⟧.history read)
         × LosesNothing [] (⟦<HostFile as Calls>⟧.history read) folder.new) }
 {
-    let opened = open_in(alloc, folder, &setup_for(publishing), if_missing)?;
+    let mut opening = begin_in(alloc, folder, &setup_for(publishing), if_missing)?;
+    let repo = run_records(alloc, state, publishing, &mut opening)?;
+    let opened = match opening.finish(alloc, folder) {
+        Ok(opened) => opened,
+        Err(left) => return Err(OpeningFault::Store(left.fault)),
+    };
     let Opened {
         log,
         identity,
+        stored,
         records,
     } = opened;
-    Ok(recover_records(alloc, state, publishing, identity, log, &records)?)
+    Ok(Recovered {
+        publishing,
+        identity,
+        repo,
+        log,
+        stored,
+        records,
+    })
 }
 
 /// How a server is set up that publishes, or does not.
@@ -174,82 +186,80 @@ pub fn empty_repository<A: Allocator + Copy>(alloc: A, state: RandomState, setup
     )
 }
 
-/// Opens the store of a folder. Where there is none it is made, or missing.
-fn open_in<R: Files<File = File>>(
+/// Begins to read the store of a folder. Where there is none it is made, or missing.
+fn begin_in<R: Files<File = File>>(
     alloc: Global,
     folder: &mut StoreFolder<'_, R>,
     setup: &Setup,
     if_missing: IfMissing,
-) -> Result<Opened<HostFile>, StoreFault>
-    ensures ok { IfOk result (λ opened. IsSettled ⟦<StoreFile<HostFile> as Device>⟧.seen
-        ⟦<StoreFile<HostFile> as Device>⟧.may_leave (head_for setup.now opened.identity) opened.records opened.log) }
-    ensures found { IfOk result (λ opened. IsFound (head_for setup.now opened.identity) opened.records []
-        (⟦<HostFile as Calls>⟧.history opened.log.device.calls)) }
-    ensures names { AreNamesIf if_missing folder.old folder.new }
+) -> Result<Opening<HostFile>, StoreFault>
+    ensures read { IfOk result (HasRead ⟦<HostFile as Calls>⟧.drawn setup.now []) }
+    ensures none { IfOk result (λ opening. (opening.records.entries ≡ [])
+        × (⟦<HostFile as Calls>⟧.history opening.calls ≡ [])) }
     ensures err { IfErr result (λ fault. IsOfFolder fault ⊎ ((read : HostFile)
-        × IsUnopened fault setup.now [] (⟦<HostFile as Calls>⟧.history read)
-        × LosesNothing [] (⟦<HostFile as Calls>⟧.history read) folder.new)) }
-    ensures tail { IfOk result (λ opened. LosesNothing []
-        (⟦<HostFile as Calls>⟧.history opened.log.device.calls) folder.new) }
+        × (⟦<HostFile as Calls>⟧.history read ≡ [])
+        × IsUnopened fault setup.now (⟦<HostFile as Calls>⟧.drawn read) [] (⟦<HostFile as Calls>⟧.history read))) }
+    ensures kept { tails_in folder.new ≡ tails_in folder.old }
+    ensures names { MatchResult result (λ _. IsBegunIf if_missing folder.old folder.new)
+        (λ _. AreNamesIf if_missing folder.old folder.new) }
 {
     match if_missing {
-        IfMissing::Create => open_or_create(alloc, folder, setup),
-        IfMissing::Refuse => open_store(alloc, folder, setup),
+        IfMissing::Create => begin_or_create(alloc, folder, setup),
+        IfMissing::Refuse => begin_store(alloc, folder, setup),
     }
 }
 
-/// Opens the store, which is made first where there is none.
-fn open_or_create<R: Files<File = File>>(
+/// Begins to read the store, which is made first where there is none.
+fn begin_or_create<R: Files<File = File>>(
     alloc: Global,
     folder: &mut StoreFolder<'_, R>,
     setup: &Setup,
-) -> Result<Opened<HostFile>, StoreFault>
-    ensures ok { IfOk result (λ opened. IsSettled ⟦<StoreFile<HostFile> as Device>⟧.seen
-        ⟦<StoreFile<HostFile> as Device>⟧.may_leave (head_for setup.now opened.identity) opened.records opened.log) }
-    ensures found { IfOk result (λ opened. IsFound (head_for setup.now opened.identity) opened.records []
-        (⟦<HostFile as Calls>⟧.history opened.log.device.calls)) }
-    ensures names { IsMadeWhereNone folder.old folder.new }
+) -> Result<Opening<HostFile>, StoreFault>
+    ensures read { IfOk result (HasRead ⟦<HostFile as Calls>⟧.drawn setup.now []) }
+    ensures none { IfOk result (λ opening. (opening.records.entries ≡ [])
+        × (⟦<HostFile as Calls>⟧.history opening.calls ≡ [])) }
     ensures err { IfErr result (λ fault. IsOfFolder fault ⊎ ((read : HostFile)
-        × IsUnopened fault setup.now [] (⟦<HostFile as Calls>⟧.history read)
-        × LosesNothing [] (⟦<HostFile as Calls>⟧.history read) folder.new)) }
-    ensures tail { IfOk result (λ opened. LosesNothing []
-        (⟦<HostFile as Calls>⟧.history opened.log.device.calls) folder.new) }
+        × (⟦<HostFile as Calls>⟧.history read ≡ [])
+        × IsUnopened fault setup.now (⟦<HostFile as Calls>⟧.drawn read) [] (⟦<HostFile as Calls>⟧.history read))) }
+    ensures kept { tails_in folder.new ≡ tails_in folder.old }
+    ensures names { MatchResult result (λ _. IsBegunIf IfMissing.Create folder.old folder.new)
+        (λ _. AreNamesIf IfMissing.Create folder.old folder.new) }
 {
-    match open_store(alloc, folder, setup) {
+    match begin_store(alloc, folder, setup) {
         Err(StoreFault::Missing) => {
             create_store(alloc, folder, setup)?;
-            open_store(alloc, folder, setup)
+            begin_store(alloc, folder, setup)
         }
-        opened => opened,
+        begun => begun,
     }
 }
 
-/// Runs the records of a log that is open on the empty repository. An `Err` says why one of them is not run, as
-/// [`replay_records`] does.
-pub fn recover_records<D: Device + Drop>(
+/// Reads the records of a store, and runs each on the empty repository as it comes. An `Err` says why one of them is not
+/// read or not run.
+fn run_records(
     alloc: Global,
     state: RandomState,
     publishing: bool,
-    identity: [u8; 16],
-    log: Log<D>,
-    records: &Seq<Entry>,
-) -> Result<Recovered<D>, RestoreFault>
-    requires { IsSettled D.seen D.may_leave (head_of publishing identity) records.now log }
-    ensures ok { IfOk result (λ recovered. IsOpened D.seen D.may_leave recovered
-        × (recovered.publishing ≡ publishing) × (recovered.identity ≡ identity)) }
-    ensures same { IfOk result (λ recovered. (recovered.log ≡ log)
-        × (records_of recovered.records.items ≡ records.now)) }
-    ensures err { IfErr result (λ fault. StopsOpening Global publishing records.now fault) }
+    opening: &mut Opening<HostFile>,
+) -> Result<Repo, OpeningFault>
+    requires read { HasRead ⟦<HostFile as Calls>⟧.drawn (setup_for publishing) [] opening.old }
+    requires none { opening.old.records.entries ≡ [] }
+    ensures ended { OnOk result (HasEnded ⟦<HostFile as Calls>⟧.drawn (setup_for publishing) opening.new) }
+    ensures ran { IfOk result (λ repo. IsRecovered publishing (head_of publishing opening.new.identity)
+        opening.new.records.entries repo) }
+    ensures stops { (fault : AnyRestoreFault) → IsErrOf result (unrestored fault) →
+        StopsRead Global publishing (⟦<HostFile as Calls>⟧.drawn opening.new.calls) fault }
+    ensures unopened { (fault : AnyStoreFault) → IsErrOf result (no_store fault) →
+        IsUnopened fault (setup_for publishing) (⟦<HostFile as Calls>⟧.drawn opening.new.calls)
+        (⟦<HostFile as Calls>⟧.history opening.old.calls) (⟦<HostFile as Calls>⟧.history opening.new.calls) }
+    ensures same { ⟦<HostFile as Calls>⟧.history opening.new.calls ≡ ⟦<HostFile as Calls>⟧.history opening.old.calls }
 {
     let mut repo = empty_repository(alloc, state, &setup_for(publishing));
-    replay_records(alloc, &mut repo, records.as_slice())?;
-    let stored = records.as_slice().len();
-    Ok(Recovered {
-        publishing,
-        identity,
-        repo,
-        log,
-        stored,
-        records: Noted::of(records),
-    })
+    for place in 0..usize::MAX {
+        if !opening.read_next()? {
+            return Ok(repo);
+        }
+        replay_record(alloc, &mut repo, place, opening.bundle())?;
+    }
+    Err(OpeningFault::Store(StoreFault::from(DeviceError::Failed)))
 }

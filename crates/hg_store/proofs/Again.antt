@@ -3,25 +3,25 @@ use Rattle.std.proofs.Common.{◌≡◌, ◌⊎◌, inl, inr, ℕ, zero, suc, �
 use Rattle.std.proofs.Common.{◌∷◌, ◌++◌, length, take, drop, get_or}
 use Rattle.std.proofs.Common.{refl, sym, ap, ◌∙◌, subst, arith, append_assoc, length-append, take-append-drop}
 use Rattle.std.proofs.Common.{length-drop}
-use Rattle.std.proofs.lemmas.List.{take_at, take_all, drop_at, take_more, append-nil}
+use Rattle.std.proofs.lemmas.List.{take_at, drop_at, take-append-le, get_or_append_left, get_or_default, get_or_push}
+use Rattle.std.proofs.lemmas.Grind.{get_or_after_one}
 use Rattle.std.proofs.lemmas.Bool.{cases_lt}
 use Rattle.std.specs.Prelude.{Result, Ok, Err, MatchResult, OnOk}
-use Rattle.std.specs.List.{AllByRecursion}
 use Rattle.hg_store.specs.Calls.{Continue, Event, FileState, LeftSince, MayLeave, after_sync, gave_up, state_of}
 use Rattle.hg_store.specs.Calls.{synced, wrote}
 use Rattle.hg_store.specs.Device.{Only}
 use Rattle.hg_store.specs.Entries.{Entry}
 use Rattle.hg_store.specs.Files.{digest_behind, stored}
-use Rattle.hg_store.specs.Again.{AreOpenedAgain, IsAmong, IsStill}
+use Rattle.hg_store.specs.Again.{AreOpenedAgain, HasGates, IsAmong, IsStill}
 use Rattle.hg_store.specs.FileLaws.{more_continue}
 use Rattle.hg_store.specs.Head.{version_of}
 use Rattle.hg_store.specs.Log.{at_rest}
-use Rattle.hg_store.specs.Records.{IsRecord, frame, frames, open_gate}
+use Rattle.hg_store.specs.Records.{frames, open_gate}
 use Rattle.hg_store.specs.declared.head.Head.{Head}
 use Rattle.hg_store.specs.declared.head.Version.{Version}
 use Rattle.hg_store.specs.declared.head.Version.TheVariants.{Second}
 use Rattle.hg_store.proofs.FileSteps.{write_leaves}
-use Rattle.hg_store.proofs.Frames.{length-frame, stored-append}
+use Rattle.hg_store.proofs.Frames.{stored-append}
 
 -- at first
 pub still_first : (calls : List Event) → Only (state_of calls).seen (MayLeave (state_of calls)) → IsStill calls calls
@@ -147,106 +147,130 @@ module _ (head : Head) (records : List Entry) (version : version_of head ≡ Sec
         refl,
       )
 
-  -- where it ends
-  pub next_end : (k : ℕ) (r : Entry) → k < length records → r ≡ get_or records k r
-      → length (stored head (take (k + 1) records))
-      ≡ length (stored head (take k records)) + (34 + length r.stamp.name + length r.bundle)
-  next_end k r less is =
-      let more : take (k + 1) records ≡ take k records ++ r ∷ [] = take_more records k r less
-      ∙ ap (λ (x : Entry). take k records ++ x ∷ []) (sym is) in
-      let digest : List ℕ = digest_behind head (take k records) in
-      omega (
-        arith,
-        ap (λ (rs : List Entry). length (stored head rs)) more,
-        ap length (stored-append head (take k records) (r ∷ [])),
-        length-append (stored head (take k records)) (frames (version_of head) digest (r ∷ [])),
-        ap length (append-nil (frame (version_of head) digest r)),
-        ap (λ (v : Version). length (frame v digest r)) version,
-        length-frame Second digest r,
-      )
+-- ---- where the gates of the last records stand
 
--- the gates that were written again so far
-pub record Progress (head : Head) (records : List Entry) (before now : List Event) (left at : ℕ) : Type 0 where
-  pub place : at ≡ length (stored head (take left records))
-  pub enough : left ≤ length records
-  pub made : List Event
-  pub calls : now ≡ made ++ before
-  pub still : IsStill before now
-  pub each : (k : ℕ) → left ≤ k → k < length records
-      → IsAmong (wrote (length (stored head (take k records))) (255 ∷ []) true) made
+pub no_gates : (head : Head) → HasGates head [] []
+no_gates head = record {
+  skipped = 0;
+  all = refl;
+  enough = inl refl;
+  each = λ k place few is. absurd (omega (arith, few));
+}
 
-pub begun : (head : Head) (records : List Entry) (calls : List Event) (left at : ℕ)
-    → Only (state_of calls).seen (MayLeave (state_of calls)) → left ≡ length records
-    → at ≡ length (stored head records) → Progress head records calls calls left at
-begun head records calls left at only all end = record {
-  place = end ∙ ap (λ (rs : List Entry). length (stored head rs)) (sym (take_all left records (omega (arith, all))));
-  enough = omega (arith, all);
+-- the place of one, behind that of another
+place_more : (head : Head) (records : List Entry) (more : Entry) (places : List ℕ) (at skipped : ℕ)
+    → skipped + length places ≡ length records
+    → ((k place : ℕ) → k < length places → place ≡ get_or places k place
+    → place ≡ length (stored head (take (skipped + k) records)))
+    → at ≡ length (stored head records) → (k place : ℕ) → k < length (places ++ at ∷ [])
+    → place ≡ get_or (places ++ at ∷ []) k place
+    → place ≡ length (stored head (take (skipped + k) (records ++ more ∷ [])))
+place_more head records more places at skipped all each at_is k place less is = elim (cases_lt k (length places)) [
+  | inl few ↦
+      each k place few (is ∙ get_or_append_left places (at ∷ []) place k few)
+      ∙ ap (λ (rs : List Entry). length (stored head rs))
+      (sym (take-append-le (skipped + k) records (more ∷ []) (omega (arith, few, all))))
+  | inr past ↦
+      let last : k ≡ length places = omega (arith, past, less, length-append places (at ∷ [])) in
+      let whole : skipped + k ≡ length records = omega (arith, last, all) in
+      let value : place ≡ at = is ∙ ap (λ (n : ℕ). get_or (places ++ at ∷ []) n place) last
+      ∙ get_or_push places at place (length places) refl in
+      value ∙ at_is ∙ ap (λ (rs : List Entry). length (stored head rs))
+      (sym (take_at records (more ∷ []) (skipped + k) (sym whole)))
+]
+
+module _ (head : Head) (records : List Entry) (more : Entry) (places : List ℕ) (at : ℕ)
+    (has : HasGates head records places) (at_is : at ≡ length (stored head records)) where
+  -- one more, where there are fewer than a batch has
+  pub gates_more : length places < 64 → HasGates head (records ++ more ∷ []) (places ++ at ∷ [])
+  gates_more few = record {
+    skipped = has.skipped;
+    all = omega (arith, has.all, length-append places (at ∷ []), length-append records (more ∷ []));
+    enough = elim has.enough [
+      | inl none ↦ inl none
+      | inr many ↦ absurd (omega (arith, few, many))
+    ];
+    each = place_more head records more places at has.skipped has.all has.each at_is;
+  }
+
+  -- one more in the place of the first
+  pub gates_moved : 64 ≤ length places → (rest : List ℕ) → rest ≡ drop 1 places
+      → HasGates head (records ++ more ∷ []) (rest ++ at ∷ [])
+  gates_moved many rest is =
+      let size : length rest + 1 ≡ length places = omega (arith, ap length is, length-drop 1 places, many) in
+      let all : has.skipped + 1 + length rest ≡ length records = omega (arith, has.all, size) in
+      record {
+        skipped = has.skipped + 1;
+        all = omega (arith, all, length-append rest (at ∷ []), length-append records (more ∷ []));
+        enough = inr (omega (arith, many, size, length-append rest (at ∷ [])));
+        each = place_more head records more rest at (has.skipped + 1) all
+            (λ k place less at_k.
+            let further : has.skipped + (1 + k) ≡ has.skipped + 1 + k = omega arith in
+            has.each (1 + k) place (omega (arith, less, size))
+            (at_k ∙ ap (λ (l : List ℕ). get_or l k place) is ∙ get_or_after_one places k place)
+            ∙ ap (λ (n : ℕ). length (stored head (take n records))) further) at_is;
+      }
+
+-- where one of them stands
+pub place_of : (head : Head) (records : List Entry) (places : List ℕ) (has : HasGates head records places) (k : ℕ)
+    → k < length places → get_or places k 0 ≡ length (stored head (take (has.skipped + k) records))
+place_of head records places has k less =
+    has.each k (get_or places k 0) less (get_or_default places k 0 (get_or places k 0) less)
+
+-- ---- they are written again
+
+-- the gates that were written again so far, but so many of those that are known
+pub record Progress (head : Head) (records : List Entry) (skipped : ℕ) (before now : List Event) (left : ℕ) : Type 0
+  where
+    pub made : List Event
+    pub calls : now ≡ made ++ before
+    pub still : IsStill before now
+    pub each : (k : ℕ) → skipped + left ≤ k → k < length records
+        → IsAmong (wrote (length (stored head (take k records))) (255 ∷ []) true) made
+
+pub begun : (head : Head) (records : List Entry) (skipped : ℕ) (calls : List Event) (left : ℕ)
+    → Only (state_of calls).seen (MayLeave (state_of calls)) → skipped + left ≡ length records
+    → Progress head records skipped calls calls left
+begun head records skipped calls left only all = record {
   made = [];
   calls = refl;
   still = still_first calls only;
   each = λ k from less. absurd (omega (arith, from, less, all));
 }
 
-module _ (head : Head) (records : List Entry) (before now : List Event) (left at : ℕ)
-    (so_far : Progress head records before now left at) (version : version_of head ≡ Second)
-    (file : (state_of before).seen ≡ at_rest head records) (k : ℕ) (last : left ≡ k + 1) where
-  less : k < length records
-  less = let enough : left ≤ length records = so_far.enough in omega (arith, last, enough)
+module _ (head : Head) (records : List Entry) (skipped : ℕ) (before now : List Event) (left : ℕ)
+    (so_far : Progress head records skipped before now left) (version : version_of head ≡ Second)
+    (file : (state_of before).seen ≡ at_rest head records) (k : ℕ) (last : left ≡ k + 1)
+    (less : skipped + k < length records) (next : ℕ)
+    (place_is : next ≡ length (stored head (take (skipped + k) records))) where
+  gate : IsGateAt (state_of before).seen next
+  gate = subst (IsGateAt (state_of before).seen) (sym place_is)
+      (gate_at head records version (state_of before).seen (skipped + k) file less)
 
-  module _ (r : Entry) (is : r ≡ get_or records k r) where
-    end : at ≡ length (stored head (take k records)) + (34 + length r.stamp.name + length r.bundle)
-    end = so_far.place ∙ ap (λ (n : ℕ). length (stored head (take n records))) last ∙ next_end head records version
-        k r less is
+  -- one more was written again
+  pub one_more : (grown : List Event) → grown ≡ wrote next (255 ∷ []) true ∷ now
+      → Progress head records skipped before grown k
+  one_more grown grown_is =
+      let call : Event = wrote next (255 ∷ []) true in
+      let here : wrote (length (stored head (take (skipped + k) records))) (255 ∷ []) true ≡ call =
+      ap (λ (n : ℕ). wrote n (255 ∷ []) true) (sym place_is) in
+      record {
+        made = call ∷ so_far.made;
+        calls = grown_is ∙ ap (λ (l : List Event). call ∷ l) so_far.calls;
+        still = subst (IsStill before) (sym grown_is) (wrote_again before now so_far.still next gate true);
+        each = λ j from under. elim (cases_lt (skipped + k) j) [
+          | inl later ↦ inr (so_far.each j (omega (arith, later, last)) under)
+          | inr same ↦
+              let one : j ≡ skipped + k = omega (arith, from, same) in
+              inl (subst (λ (n : ℕ). wrote (length (stored head (take n records))) (255 ∷ []) true ≡ call) (sym one) here)
+        ];
+      }
 
-    pub fits : 34 + length r.stamp.name + length r.bundle ≤ at
-    fits = omega (arith, end)
-
-    module _ (next : ℕ) (next_is : next ≡ at - (34 + length r.stamp.name + length r.bundle)) where
-      pub place_is : next ≡ length (stored head (take k records))
-      place_is = omega (arith, end, next_is)
-
-      pub gate : IsGateAt (state_of before).seen next
-      gate = subst (IsGateAt (state_of before).seen) (sym place_is)
-          (gate_at head records version (state_of before).seen k file less)
-
-      -- one more was written again
-      pub one_more : (grown : List Event) → grown ≡ wrote next (255 ∷ []) true ∷ now
-          → Progress head records before grown k next
-      one_more grown grown_is =
-          let call : Event = wrote next (255 ∷ []) true in
-          let here : wrote (length (stored head (take k records))) (255 ∷ []) true ≡ call =
-          ap (λ (n : ℕ). wrote n (255 ∷ []) true) (sym place_is) in
-          record {
-            place = place_is;
-            enough = omega (arith, less);
-            made = call ∷ so_far.made;
-            calls = grown_is ∙ ap (λ (l : List Event). call ∷ l) so_far.calls;
-            still = subst (IsStill before) (sym grown_is) (wrote_again before now so_far.still next gate true);
-            each = λ j from under. elim (cases_lt k j) [
-              | inl later ↦ inr (so_far.each j (omega (arith, later, last)) under)
-              | inr same ↦
-                  let one : j ≡ k = omega (arith, from, same) in
-                  inl (subst (λ (n : ℕ). wrote (length (stored head (take n records))) (255 ∷ []) true ≡ call) (sym one) here)
-            ];
-          }
-
-      -- the write failed
-      pub stopped : (later : List Event) → (later ≡ wrote next (255 ∷ []) false ∷ now) ⊎ (later ≡ gave_up ∷ now)
-          → IsStill before later
-      stopped later (inl is) = subst (IsStill before) (sym is) (wrote_again before now so_far.still next gate false)
-      stopped later (inr is) = subst (IsStill before) (sym is) (gave_up_again before now so_far.still)
-
--- a record has numbers that can be written
-pub record_at : (version : Version) (rs : List Entry) (k : ℕ) (r : Entry) → AllByRecursion (IsRecord version) rs
-    → k < length rs → r ≡ get_or rs k r → IsRecord version r
-record_at version [] k r each less is = absurd (omega (arith, less))
-record_at version (x ∷ rs) zero r each less is = subst (IsRecord version) (sym is) each.0
-record_at version (x ∷ rs) (suc k) r each less is = record_at version rs k r each.1 (omega (arith, less)) is
-
-pub as_second : (version : Version) (r : Entry) → version ≡ Second → IsRecord version r
-    → (length r.bundle < 2 ^ 32) × (length r.stamp.name < 2 ^ 8)
-as_second version r second each =
-    let is : IsRecord Second r = subst (λ (v : Version). IsRecord v r) second each in (is.0, is.2)
+  -- the write failed
+  pub stopped : (later : List Event) → (later ≡ wrote next (255 ∷ []) false ∷ now) ⊎ (later ≡ gave_up ∷ now)
+      → IsStill before later
+  stopped later (inl is) = subst (IsStill before) (sym is) (wrote_again before now so_far.still next gate false)
+  stopped later (inr is) = subst (IsStill before) (sym is) (gave_up_again before now so_far.still)
 
 -- after a sync, whatever it answered
 pub synced_still : {T E : Type 0} (r : Result T E) (before now later : List Event) → IsStill before now
@@ -258,23 +282,20 @@ synced_still (Err why) before now later still (inl is) =
 synced_still (Err why) before now later still (inr is) = subst (IsStill before) (sym is) (gave_up_again before now still)
 
 -- all of them, and the file was synced
-pub all_again : (head : Head) (records : List Entry) (before now done : List Event) (left at least : ℕ)
-    → Progress head records before now left at → left ≤ least → least ≡ length records - 64
-    → done ≡ synced true ∷ now → AreOpenedAgain head records before done
-all_again head records before now done left at least so_far few is calls = record {
-  made = so_far.made;
-  calls = calls ∙ ap (λ (l : List Event). synced true ∷ l) so_far.calls;
-  each = λ k less near. so_far.each k (omega (arith, few, is, near)) less;
-}
-
--- the same, where the sync answered Ok
-pub synced_all : {T E : Type 0} (r : Result T E) (head : Head) (records : List Entry) (before now later : List Event)
-    (left at least : ℕ) → Progress head records before now left at → left ≤ least → least ≡ length records - 64
+pub synced_all : {T E : Type 0} (r : Result T E) (head : Head) (records : List Entry) (places : List ℕ)
+    (has : HasGates head records places) (before now later : List Event) (left : ℕ)
+    → Progress head records has.skipped before now left → left ≡ 0
     → MatchResult r (λ _. later ≡ synced true ∷ now)
     (λ _. (later ≡ synced false ∷ now) ⊎ (later ≡ gave_up ∷ now)) → OnOk r (AreOpenedAgain head records before later)
-synced_all (Ok done) head records before now later left at least so_far few is calls =
-    all_again head records before now later left at least so_far few is calls
-synced_all (Err why) head records before now later left at least so_far few is calls = tt
+synced_all (Ok done) head records places has before now later left so_far none calls = record {
+  made = so_far.made;
+  calls = calls ∙ ap (λ (l : List Event). synced true ∷ l) so_far.calls;
+  each = λ k less near. so_far.each k (elim has.enough [
+    | inl all ↦ omega (arith, all, none)
+    | inr many ↦ omega (arith, has.all, many, near, none)
+  ]) less;
+}
+synced_all (Err why) head records places has before now later left so_far none calls = tt
 
 -- a file that more calls left as it was
 module _ (at_first mid now : List Event) (still : IsStill mid now) (more : Continue at_first mid) where

@@ -1,5 +1,6 @@
 mod Frames
 mod Heads
+mod OneByOne
 mod OneReading
 mod NoDamage
 mod Fronts
@@ -12,6 +13,7 @@ mod Staying
 mod Repair
 mod FileSteps
 mod Opens
+mod Brought
 mod AtRest
 mod Tails
 mod Again

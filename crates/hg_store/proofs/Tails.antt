@@ -342,11 +342,24 @@ later_of f (inl a) = inl a
 later_of f (inr (inl b)) = inr (inl b)
 later_of f (inr (inr c)) = inr (inr (f c))
 
+-- no byte is lost of a file that was read, and of which the one tail is 0 or was kept
+pub lost_is : (bytes : List ℕ) (before now done : List Event) (head : Head) (records : List Entry) (tail : List ℕ)
+    (place : ℕ) → Continue (began bytes ∷ before) now → IsStore bytes head records tail → place ≡ length records
+    → (is_blank tail ≡ true) ⊎ IsKept place tail done → LosesNothing before now done
+lost_is bytes before now done head records tail place more store count kept = inr (
+  bytes,
+  more,
+  λ its others other its_store. safe_of other (length others) done
+      ((left : List ℕ) → LeftSince now (length before + 1) left → left ≡ bytes)
+      (tail_is bytes bytes its head others records other tail place done refl store its_store count kept),
+)
+
 -- the same of a file on which no call was made before
 pub lost_of_none : (before now done : List Event) → before ≡ [] → LosesNothing before now done
     → LosesNothing [] now done
 lost_of_none before now done none lost = subst (λ (l : List Event). LosesNothing l now done) none lost
 
-pub unopened_of_none : (fault : StoreFault) (setup : Setup) (before now : List Event) → before ≡ []
-    → IsUnopened fault setup before now → IsUnopened fault setup [] now
-unopened_of_none fault setup before now none why = subst (λ (l : List Event). IsUnopened fault setup l now) none why
+pub unopened_of_none : (fault : StoreFault) (setup : Setup) (bytes : List ℕ) (before now : List Event) → before ≡ []
+    → IsUnopened fault setup bytes before now → IsUnopened fault setup bytes [] now
+unopened_of_none fault setup bytes before now none why =
+    subst (λ (l : List Event). IsUnopened fault setup bytes l now) none why

@@ -1,5 +1,5 @@
 -- Gates that are written once more.
-use Rattle.std.specs.Prelude.{ℕ, ◌≡◌, ◌⊎◌, ◌+◌, ◌<◌, ◌≤◌, true, List, [], ◌∷◌, ◌++◌, length, take}
+use Rattle.std.specs.Prelude.{ℕ, ◌≡◌, ◌⊎◌, ◌+◌, ◌<◌, ◌≤◌, true, List, [], ◌∷◌, ◌++◌, length, slice_index_or, take}
 use Rattle.hg_store.specs.Calls.{Continue, Event, LeftSince, MayLeave, began, state_of, synced, wrote}
 use Rattle.hg_store.specs.Device.{Only}
 use Rattle.hg_store.specs.Entries.{Entry}
@@ -26,6 +26,15 @@ pub record AreOpenedAgain (head : Head) (records : List Entry) (before now : Lis
   pub calls : now ≡ synced true ∷ (made ++ before)
   pub each : (k : ℕ) → k < length records → length records ≤ k + 64
       → IsAmong (wrote (length (stored head (take k records))) (255 ∷ []) true) made
+
+-- The gates of the last of some records stand at these places, one after the other: those of all but so many, as many
+-- as a batch has at most.
+pub record HasGates (head : Head) (records : List Entry) (places : List ℕ) : Type 0 where
+  pub skipped : ℕ
+  pub all : skipped + length places ≡ length records
+  pub enough : (skipped ≡ 0) ⊎ (64 ≤ length places)
+  pub each : (k place : ℕ) → k < length places → place ≡ slice_index_or places k place
+      → place ≡ length (stored head (take (skipped + k) records))
 
 -- The same of a file that was read just before.
 pub record AreOpenedAfter (head : Head) (records : List Entry) (before now : List Event) : Type 0 where

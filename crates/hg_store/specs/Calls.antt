@@ -43,6 +43,25 @@ renewed = (7, 0, [], true)
 abbrev pub tail_kept : ℕ → List ℕ → Event
 tail_kept place bytes = (8, place, bytes, true)
 
+-- of a file that is read, these bytes came next
+abbrev pub came : List ℕ → Event
+came bytes = (9, 0, bytes, true)
+
+-- the bytes that came of a file by these pieces, of which the newest comes first
+abbrev pub bytes_in : List Event → List ℕ
+bytes_in [] = []
+bytes_in (piece ∷ earlier) = bytes_in earlier ++ piece.2
+
+-- A file gave so many bytes more than were drawn from it, or fewer, and then its end was met. They were appended to
+-- others.
+pub record ReadsOn (count : ℕ) (bytes grown drawn drew : List ℕ) (is_over : Bool) : Type 0 where
+  pub more : List ℕ
+  pub appended : grown ≡ bytes ++ more
+  pub came : drew ≡ drawn ++ more
+  pub few : length more ≤ count
+  pub short : length more < count → is_over ≡ true
+  pub full : length more ≡ count → is_over ≡ false
+
 -- What is known of a file.
 pub record FileState : Type 0 where
   -- the bytes that a read returns

@@ -5,10 +5,10 @@ use Rattle.hg_store.specs.declared.start.StoreFault.TheVariants.{Missing}
 use Rattle.hg_store.specs.Calls.{Event, missed, renewed}
 use Rattle.hg_store.specs.Tails.{IsKeptAtMost}
 
--- A store was looked for: where there was none that is noted, and else its tail was kept at most.
-abbrev pub IsLookedFor : StoreFault → List Event → List Event → Type 0
-IsLookedFor Missing before now = now ≡ missed ∷ before
-IsLookedFor other before now = IsKeptAtMost before now
+-- A store was looked for, and nothing was done: where there was none that is noted.
+abbrev pub IsMissedFor : StoreFault → List Event → List Event → Type 0
+IsMissedFor Missing before now = now ≡ missed ∷ before
+IsMissedFor other before now = now ≡ before
 
 -- a file was made that may take the place of a store, or nothing was done
 abbrev pub IsMadeAtMost : List Event → List Event → Type 0

@@ -1,12 +1,13 @@
 -- What is noted of a call.
 use Rattle.hg_store.specs.declared.history.Call.{Call}
-use Rattle.hg_store.specs.declared.history.Call.TheVariants.{Began, Wrote, Shortened, Synced, Placed, GaveUp, Missed}
+use Rattle.hg_store.specs.declared.history.Call.TheVariants.{Began, Read, Wrote, Shortened, Synced, Placed, GaveUp, Missed}
 use Rattle.hg_store.specs.declared.history.Call.TheVariants.{Renewed, TailKept}
-use Rattle.hg_store.specs.Calls.{Event, began, wrote, shortened, synced, placed, gave_up, missed, renewed, tail_kept}
+use Rattle.hg_store.specs.Calls.{Event, began, came, wrote, shortened, synced, placed, gave_up, missed, renewed, tail_kept}
 
 -- what a call was, and what it answered
 abbrev pub event_of : Call → Event
 event_of (Began bytes) = began bytes.now
+event_of (Read bytes) = came bytes.now
 event_of (Wrote at bytes ok) = wrote at bytes.now ok
 event_of (Shortened len ok) = shortened len ok
 event_of (Synced ok) = synced ok

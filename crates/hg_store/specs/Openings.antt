@@ -1,15 +1,20 @@
 -- What was found where a store in a file is opened, and why one is not opened.
-use Rattle.std.specs.Prelude.{ℕ, ◌≡◌, ◌≢◌, ◌⊎◌, ◌+◌, List, ◌∷◌, length, ⊤}
+use Rattle.std.specs.Prelude.{ℕ, ◌≡◌, ◌≢◌, ◌⊎◌, ◌+◌, ◌≤◌, List, [], ◌∷◌, ◌++◌, Bool, true, false, drop, length, ⊤}
 use Rattle.hg_store.specs.declared.head.Head.{Head}
 use Rattle.hg_store.specs.declared.head.Setup.{Setup}
 use Rattle.hg_store.specs.declared.opening.RecoverFault.TheVariants.{Read, OldVersion, Torn, Tail, Device}
 use Rattle.hg_store.specs.declared.start.StoreFault.{StoreFault}
 use Rattle.hg_store.specs.declared.start.StoreFault.TheVariants.{Missing, Exists, Held, Linked, OtherPublishing, OtherLimits, Recover}
-use Rattle.hg_store.specs.Calls.{Continue, Event, LeftSince, MayLeave, began, state_of}
-use Rattle.hg_store.specs.Device.{Only}
+use Rattle.hg_store.specs.Calls.{Continue, Event, LeftSince, began}
 use Rattle.hg_store.specs.Entries.{Entry}
 use Rattle.hg_store.specs.Files.{IsOldStore, IsTornStore, IsUnread, StandsFor}
-use Rattle.hg_store.specs.Head.{HasHead}
+use Rattle.hg_store.specs.Files.{digest_behind, stored}
+use Rattle.hg_store.specs.Head.{HasHead, IsHead, head_for}
+use Rattle.hg_store.specs.Again.{HasGates}
+use Rattle.hg_store.specs.Records.{IsEnd, IsRecord}
+use Rattle.hg_store.specs.declared.head.Version.TheVariants.{Second}
+use Rattle.hg_store.specs.declared.front.Opening.{Opening}
+use Rattle.std.specs.List.{AllByRecursion}
 use Rattle.hg_store.specs.Tails.{IsTailRefused}
 
 -- A store in a file is open for more records. The first call on the file read it: the bytes that were found stand for
@@ -40,12 +45,6 @@ IsRefusedAs (Recover (Torn whole)) setup bytes = IsTornStore bytes whole
 IsRefusedAs (Recover (Tail fault)) setup bytes = IsTailRefused fault bytes
 IsRefusedAs other setup bytes = ⊥
 
--- A file was read, and holds the bytes that were found, all of them on the disk.
-pub record IsLeft (bytes : List ℕ) (before now : List Event) : Type 0 where
-  pub read_first : Continue (began bytes ∷ before) now
-  pub same : (state_of now).seen ≡ bytes
-  pub durable : Only bytes (MayLeave (state_of now))
-
 -- A file was read. Whatever records the bytes stood for that were found, what a crash may have left at any moment
 -- since stands for them.
 pub record IsInterrupted (bytes : List ℕ) (before now : List Event) : Type 0 where
@@ -53,9 +52,37 @@ pub record IsInterrupted (bytes : List ℕ) (before now : List Event) : Type 0 w
   pub any_moment : (head : Head) (records : List Entry) → StandsFor head records bytes → (left : List ℕ)
       → LeftSince now (length before + 1) left → StandsFor head records left
 
--- Why a file is not opened, by the calls on it before and those up to now, and what is left of it. Where a device
--- failed, or memory was refused, it was not read, or no record is lost.
-abbrev pub IsUnopened : StoreFault → Setup → List Event → List Event → Type 0
-IsUnopened (Recover (Device fault)) setup before now =
-    (now ≡ before) ⊎ ((bytes : List ℕ) × IsInterrupted bytes before now)
-IsUnopened fault setup before now = (bytes : List ℕ) × IsLeft bytes before now × IsRefusedAs fault setup bytes
+-- Why a file is not opened, by the bytes that were read of it, and by the calls on it before and those up to now.
+-- Where a device failed, or memory was refused, it was not changed, or no record is lost; else it was not changed.
+abbrev pub IsUnopened : StoreFault → Setup → List ℕ → List Event → List Event → Type 0
+IsUnopened (Recover (Device fault)) setup bytes before now =
+    (now ≡ before) ⊎ ((found : List ℕ) × IsInterrupted found before now)
+IsUnopened fault setup bytes before now = (now ≡ before) × IsRefusedAs fault setup bytes
+
+-- Of a store that is opened for a server that is set up in this way, the head was read and these records, and then
+-- this. It is known where the records end, and where the gates of the last of them stand.
+pub record HasRead {C A : Type 0} (drawn : C → List ℕ) (setup : Setup) (tail : List ℕ) (opening : Opening C A) :
+    Type 0 where
+  pub allowed : IsHead (head_for setup opening.identity)
+  pub each : AllByRecursion (IsRecord Second) opening.records.entries
+  pub read : drawn opening.calls ≡ stored (head_for setup opening.identity) opening.records.entries ++ tail
+  pub place : opening.end ≡ length (stored (head_for setup opening.identity) opening.records.entries)
+  pub chained : opening.digest ≡ digest_behind (head_for setup opening.identity) opening.records.entries
+  pub count : opening.stored ≡ length opening.records.entries
+  pub kept : HasGates (head_for setup opening.identity) opening.records.entries opening.gates.items
+
+-- All records were read, and then this: none follows.
+pub record HasEnded {C A : Type 0} (drawn : C → List ℕ) (setup : Setup) (opening : Opening C A) : Type 0 where
+  pub all : HasRead drawn setup opening.frame.items opening
+  pub ends : IsEnd opening.frame.items
+
+-- One more record was read, with the bundle that is held.
+pub record IsNextOf {C A : Type 0} (entry : Entry) (old new : Opening C A) : Type 0 where
+  pub more : new.records.entries ≡ old.records.entries ++ entry ∷ []
+  pub held : entry.bundle ≡ drop new.bundle new.frame.items
+  pub within : new.bundle ≤ length new.frame.items
+
+-- a record was read, or there is none
+abbrev pub HasNext : {C A : Type 0} → (C → List ℕ) → Setup → Bool → Opening C A → Opening C A → Type 0
+HasNext drawn setup true old new = HasRead drawn setup [] new × ((entry : Entry) × IsNextOf entry old new)
+HasNext drawn setup false old new = HasEnded drawn setup new × (new.records.entries ≡ old.records.entries)

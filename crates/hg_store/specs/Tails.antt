@@ -1,5 +1,5 @@
 -- What stands after the last whole record of a store, and where it is kept.
-use Rattle.std.specs.Prelude.{ℕ, zero, suc, ◌≡◌, ◌⊎◌, ◌+◌, ◌≤◌, ◌<◌, ◌^◌, ◌==◌, Bool, true, List, [], ◌∷◌, length, ⊤}
+use Rattle.std.specs.Prelude.{ℕ, zero, suc, ◌≡◌, ◌⊎◌, ◌+◌, ◌≤◌, ◌<◌, ◌^◌, ◌==◌, Bool, true, List, [], ◌∷◌, if◌then◌else◌, length, ⊤}
 use Rattle.std.specs.List.{list_all}
 use Rattle.hg_store.specs.Calls.{Continue, Event, LeftSince, began, tail_kept}
 use Rattle.hg_store.specs.Device.{LeavesOnly}
@@ -58,6 +58,11 @@ IsTailRefused NoMemory file = ⊤
 -- what was done in a folder, of which the newest comes first: last a tail was kept that stood after so many records
 abbrev pub IsKept : ℕ → List ℕ → List Event → Type 0
 IsKept place tail done = (earlier : List Event) × (done ≡ tail_kept place tail ∷ earlier)
+
+-- how many tails were kept by what was done in a folder
+abbrev pub tails_in : List Event → ℕ
+tails_in [] = 0
+tails_in (call ∷ earlier) = (if call.0 == 8 then 1 else 0) + tails_in earlier
 
 -- a tail was kept, or nothing was done
 abbrev pub IsKeptAtMost : List Event → List Event → Type 0

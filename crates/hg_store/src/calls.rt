@@ -1,24 +1,45 @@
 //! What is asked of a file of the system: that each call on it is noted with its answer.
 
-ghost use Rattle.std.specs.Prelude.{◌≡◌, ◌∷◌, List, is_ok, MatchResult};
-ghost use Rattle.hg_store.specs.Calls.{Event, began, gave_up, shortened, synced, wrote};
+ghost use Rattle.std.specs.Prelude.{◌≡◌, [], ◌∷◌, Bool, List, ℕ, OnOk, is_ok, true};
+ghost use Rattle.hg_store.specs.Calls.{Event, ReadsOn, began, gave_up, shortened, synced, wrote};
 
 use crate::device::DeviceError;
-use hg_types::Seq;
 use std::alloc::Allocator;
 use std::io;
 
 /// The calls on a file. A contract says which were made and what each answered, and not what is in the
 /// file.
 pub trait Calls: Drop {
-    /// Each call so far with its answer, the newest first.
+    /// Each call so far with its answer, the newest first. A file is read by many calls, and they are noted as one, once
+    /// all of it was read.
     ghost history: { Self → List Event };
 
-    /// Syncs the file, drops what the system keeps of it, and reads all of its bytes: so that they are
-    /// those of the disk.
-    fn begin<A: Allocator + Copy>(&mut self, alloc: A) -> Result<Seq<u8, A>, DeviceError>
-        ensures { MatchResult result (λ bytes. history self.new ≡ began bytes ∷ history self.old)
-            (λ _. history self.new ≡ history self.old) };
+    /// The bytes that were read since it was begun.
+    ghost drawn: { Self → List ℕ };
+
+    /// Whether its end was met.
+    ghost is_over: { Self → Bool };
+
+    /// Syncs the file, and drops what the system keeps of it: so that what is read from now on is what the disk has,
+    /// from the first byte on.
+    fn begin(&mut self) -> Result<(), DeviceError>
+        ensures same { history self.new ≡ history self.old }
+        ensures drawn { OnOk result (drawn self.new ≡ []) };
+
+    /// Reads on: appends so many bytes of the file, or those that it has still, where they are fewer.
+    fn read_on<A: Allocator>(
+        &mut self,
+        count: usize,
+        bytes: &mut Vec<u8, A>,
+    ) -> Result<(), DeviceError>
+        ensures same { history self.new ≡ history self.old }
+        ensures read { OnOk result (ReadsOn count bytes.old.items bytes.new.items (drawn self.old) (drawn self.new)
+            (is_over self.new)) };
+
+    /// Makes no call, and notes that the file was read from its first byte to its end.
+    fn note_read(&mut self)
+        requires { is_over self.old ≡ true }
+        ensures { history self.new ≡ began (drawn self.old) ∷ history self.old };
 
     /// Writes these bytes from that place on.
     fn write(&mut self, at: usize, bytes: &[u8]) -> io::Result<()>

@@ -1,7 +1,7 @@
 //! A device over the calls on a file: what is known of the file by the calls that were made, and what they
 //! answered.
 
-ghost use Rattle.std.specs.Prelude.{◌≡◌, ◌⊎◌, [], ◌∷◌, List, ℕ, Some, Ok, IfOk, MatchResult, false, true, is_ok};
+ghost use Rattle.std.specs.Prelude.{◌≡◌, ◌⊎◌, [], ◌∷◌, List, ℕ, Ok, IfOk, MatchResult, false, true, is_ok};
 ghost use Rattle.std.specs.Prelude.{length};
 ghost use Rattle.hg_store.specs.Calls.{Continue, Event, LeftSince, MayLeave, beats_in, began, ends_written, gave_up};
 ghost use Rattle.hg_store.specs.Calls.{state_of, synced, wrote};
@@ -10,34 +10,29 @@ ghost use Rattle.hg_store.specs.FileLaws.{more_continue, now_alone, now_counts};
 use crate::calls::Calls;
 use crate::device::{Device, DeviceError};
 use crate::head::OPEN;
-use hg_types::Seq;
-use std::alloc::{Allocator, Global};
+use std::alloc::Allocator;
 use std::io;
 
-/// A file of the system as a device. What a read returns, and what a crash may leave, is what the calls
+/// A file of the system as a device. What it has, and what a crash may leave, is what the calls
 /// make of the bytes that were read at first, where each call that answered Ok did what it says and each
 /// that failed was made, in part or not at all: that this is so of a disk is a premise, and no contract
 /// says it. After a call that failed no other is made.
 #[derive(Drop)]
-pub struct StoreFile<C: Calls, A: Allocator = Global> {
+pub struct StoreFile<C: Calls> {
     calls: C,
-    /// The bytes that were read, until they are given out or the file is changed.
-    unread: Option<Seq<u8, A>>,
     /// Whether a call failed.
     broken: bool,
     ghost known: { broken ≡ (state_of (C.Calls.history calls)).failed },
-    ghost told: { (bytes : List ℕ) → unread ≡ Some bytes → bytes ≡ (state_of (C.Calls.history calls)).seen },
 }
 
-impl<C: Calls, A: Allocator + Copy> StoreFile<C, A> {
-    /// A file of which these bytes were read.
-    pub fn of(calls: C, bytes: Seq<u8, A>) -> Self
-        requires { (earlier : List Event) × (C.Calls.history calls ≡ began bytes ∷ earlier) }
+impl<C: Calls> StoreFile<C> {
+    /// A file of which all was read just now.
+    pub fn of(calls: C) -> Self
+        requires { (earlier : List Event) × (bytes : List ℕ) × (C.Calls.history calls ≡ began bytes ∷ earlier) }
         ensures { result.calls ≡ calls }
     {
         StoreFile {
             calls,
-            unread: Some(bytes),
             broken: false,
         }
     }
@@ -53,11 +48,7 @@ impl<C: Calls, A: Allocator + Copy> StoreFile<C, A> {
     pub fn into_calls(self) -> C
         ensures { result ≡ self.calls }
     {
-        let StoreFile {
-            calls,
-            unread: _,
-            broken: _,
-        } = self;
+        let StoreFile { calls, broken: _ } = self;
         calls
     }
 
@@ -72,7 +63,6 @@ impl<C: Calls, A: Allocator + Copy> StoreFile<C, A> {
             self.refuse();
             return Err(DeviceError::Failed);
         }
-        self.unread = None;
         let answer = self.calls.write(at, &[OPEN]);
         self.broken = answer.is_err();
         told(answer)
@@ -98,7 +88,6 @@ impl<C: Calls, A: Allocator + Copy> StoreFile<C, A> {
     fn refuse(&mut self)
         ensures { C.Calls.history self.new.calls ≡ gave_up ∷ C.Calls.history self.old.calls }
     {
-        self.unread = None;
         self.calls.give_up();
         self.broken = true;
     }
@@ -115,7 +104,7 @@ pub(crate) fn told<T>(answer: io::Result<T>) -> Result<T, DeviceError>
     }
 }
 
-impl<C: Calls, A: Allocator + Copy> Device for StoreFile<C, A> {
+impl<C: Calls> Device for StoreFile<C> {
     ghost seen = { λ f. (state_of (C.Calls.history f.calls)).seen };
 
     ghost may_leave = { λ f. MayLeave (state_of (C.Calls.history f.calls)) };
@@ -139,15 +128,10 @@ impl<C: Calls, A: Allocator + Copy> Device for StoreFile<C, A> {
     ghost goes_on_more = { λ f g h. more_continue (C.Calls.history f.calls) (C.Calls.history g.calls)
         (C.Calls.history h.calls) };
 
-    /// The bytes that were read at first. They are given out once.
-    fn read<B: Allocator + Copy>(&mut self, alloc: B) -> Result<Vec<u8, B>, DeviceError> {
-        let Some(bytes) = &self.unread else {
-            self.refuse();
-            return Err(DeviceError::Failed);
-        };
-        let copy = Vec::from_slice(alloc, bytes.as_slice())?;
-        self.unread = None;
-        Ok(copy)
+    /// It is not read again: it was read by pieces, and they were not kept.
+    fn read<B: Allocator + Copy>(&mut self, _alloc: B) -> Result<Vec<u8, B>, DeviceError> {
+        self.refuse();
+        Err(DeviceError::Failed)
     }
 
     fn write_at(&mut self, at: usize, bytes: &[u8]) -> Result<(), DeviceError> {
@@ -155,7 +139,6 @@ impl<C: Calls, A: Allocator + Copy> Device for StoreFile<C, A> {
             self.refuse();
             return Err(DeviceError::Failed);
         }
-        self.unread = None;
         let answer = self.calls.write(at, bytes);
         self.broken = answer.is_err();
         told(answer)
@@ -166,7 +149,6 @@ impl<C: Calls, A: Allocator + Copy> Device for StoreFile<C, A> {
             self.refuse();
             return Err(DeviceError::Failed);
         }
-        self.unread = None;
         let answer = self.calls.shorten(len);
         self.broken = answer.is_err();
         told(answer)

@@ -2,22 +2,19 @@
 
 ghost use Rattle.std.specs.Prelude.{◌≡◌, ◌⊎◌, [], ◌∷◌, IfErr, IfOk, MatchResult, length};
 ghost use Rattle.hg_store.specs.Calls.{renewed};
-ghost use Rattle.hg_store.specs.Folders.{IsLookedFor, IsMadeAtMost};
-ghost use Rattle.hg_store.specs.Head.{head_for};
-ghost use Rattle.hg_store.specs.Log.{IsSettled};
-ghost use Rattle.hg_store.specs.Openings.{IsFound, IsOfFolder, IsUnopened};
-ghost use Rattle.hg_store.specs.Tails.{IsKeptAtMost, LosesNothing};
+ghost use Rattle.hg_store.specs.Folders.{IsMadeAtMost, IsMissedFor};
+ghost use Rattle.hg_store.specs.Openings.{HasRead, IsOfFolder, IsUnopened};
 
 use crate::calls::Calls;
-use crate::device::{Device, DeviceError};
-use crate::file::StoreFile;
+use crate::device::DeviceError;
+use crate::front::Opening;
 use crate::head::{Head, Setup};
 use crate::history::Call;
 use crate::host::{HostFile, device_error};
 use crate::names::StoreFolder;
 use crate::place::create_file;
 use crate::placed::{Access, PlacedFile, hold, open_plain, path_in, sync_folder};
-use crate::start::{Opened, StoreFault, open_file};
+use crate::start::StoreFault;
 use std::alloc::Allocator;
 use std::fs::{File, Files};
 use std::io::Read;
@@ -79,32 +76,26 @@ pub fn new_identity<R: Files<File = File>>(files: &R) -> Result<[u8; 16], StoreF
     }
 }
 
-/// Opens the store in a folder, and holds it against other processes until it is dropped. The folder is synced, since
-/// whoever gave the file its name may have ended before that; where this fails the store is not opened. Then it is
-/// read, its tail is kept in the folder, and it is brought in order, as [`open_file`] does.
-pub fn open_store<R: Files<File = File>, A: Allocator + Copy>(
+/// Begins to read the store in a folder, and holds it against other processes until it is dropped. The folder is synced,
+/// since whoever gave the file its name may have ended before that; where this fails the store is not opened.
+pub fn begin_store<R: Files<File = File>, A: Allocator + Copy>(
     alloc: A,
     folder: &mut StoreFolder<'_, R>,
     setup: &Setup,
-) -> Result<Opened<HostFile, A>, StoreFault>
-    ensures settled { IfOk result (λ opened. IsSettled ⟦<StoreFile<HostFile, A> as Device>⟧.seen
-        ⟦<StoreFile<HostFile, A> as Device>⟧.may_leave (head_for setup.now opened.identity) opened.records opened.log) }
-    ensures found { IfOk result (λ opened. IsFound (head_for setup.now opened.identity) opened.records []
-        (⟦<HostFile as Calls>⟧.history opened.log.device.calls)) }
+) -> Result<Opening<HostFile, A>, StoreFault>
+    ensures read { IfOk result (HasRead ⟦<HostFile as Calls>⟧.drawn setup.now []) }
+    ensures none { IfOk result (λ opening. (opening.records.entries ≡ [])
+        × (⟦<HostFile as Calls>⟧.history opening.calls ≡ [])) }
     ensures err { IfErr result (λ fault. IsOfFolder fault ⊎ ((read : HostFile)
-        × IsUnopened fault setup.now [] (⟦<HostFile as Calls>⟧.history read)
-        × LosesNothing [] (⟦<HostFile as Calls>⟧.history read) folder.new)) }
-    ensures names { MatchResult result (λ _. IsKeptAtMost folder.old folder.new)
-        (λ fault. IsLookedFor fault folder.old folder.new) }
-
-    // What the file had after its last whole record is kept before it is cut off.
-    ensures tail { IfOk result (λ opened. LosesNothing []
-        (⟦<HostFile as Calls>⟧.history opened.log.device.calls) folder.new) }
+        × (⟦<HostFile as Calls>⟧.history read ≡ [])
+        × IsUnopened fault setup.now (⟦<HostFile as Calls>⟧.drawn read) [] (⟦<HostFile as Calls>⟧.history read))) }
+    ensures names { MatchResult result (λ _. folder.new ≡ folder.old)
+        (λ fault. IsMissedFor fault folder.old folder.new) }
 {
     let file = find(alloc, folder)?;
     sync_names(folder.files(), alloc, folder.path())?;
-    match open_file(alloc, HostFile::new(file), setup, folder) {
-        Ok(opened) => Ok(opened),
+    match Opening::begin(alloc, HostFile::new(file), setup) {
+        Ok(opening) => Ok(opening),
         Err(left) => Err(left.fault),
     }
 }
@@ -124,7 +115,7 @@ fn find<R: Files<File = File>, A: Allocator + Copy>(
 ) -> Result<File, StoreFault>
     ensures err { IfErr result IsOfFolder }
     ensures names { MatchResult result (λ _. folder.new ≡ folder.old)
-        (λ fault. IsLookedFor fault folder.old folder.new) }
+        (λ fault. IsMissedFor fault folder.old folder.new) }
 {
     match open_held(folder.files(), alloc, folder.path()) {
         Ok(file) => Ok(file),

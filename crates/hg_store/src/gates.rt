@@ -1,52 +1,52 @@
 //! The gates of the last records, which are written once more before a store is served.
 
-ghost use Rattle.std.specs.Prelude.{◌≡◌, ◌<◌, ◌+◌, ◌^◌, OnOk, length};
-ghost use Rattle.hg_store.specs.Again.{AreOpenedAgain, IsStill};
+ghost use Rattle.std.specs.Prelude.{◌≡◌, ◌++◌, ◌∷◌, [], List, ℕ, OnOk, length};
+ghost use Rattle.hg_store.specs.Again.{AreOpenedAgain, HasGates, IsStill};
+ghost use Rattle.hg_store.specs.Entries.{Entry as AnyEntry};
+ghost use Rattle.hg_store.specs.Files.{stored};
 ghost use Rattle.hg_store.specs.Log.{IsSettledAt};
-ghost use Rattle.hg_store.specs.Records.{IsSized};
+ghost use Rattle.hg_store.specs.declared.head.Head.{Head};
 
 use crate::calls::Calls;
 use crate::device::{Device, DeviceError};
-use crate::entry::Entry;
 use crate::file::StoreFile;
-use crate::read::Found;
 use crate::tail::BATCH_RECORDS;
+use hg_types::NoMemory;
 use std::alloc::Allocator;
 
-/// How many bytes of a record stand beside its name and its bundle.
-const FRAME: usize = 34;
+/// Remembers where the gate of one more record stands, beside those of the last, as many as a batch has at most.
+pub(crate) fn add_gate<A: Allocator>(gates: &mut Vec<usize, A>, at: usize) -> Result<(), NoMemory>
+    ensures { (head : Head) (records : List AnyEntry) (more : AnyEntry) → HasGates head records gates.old.items →
+        at ≡ length (stored head records) → OnOk result (HasGates head (records ++ more ∷ []) gates.new.items) }
+{
+    if gates.len() >= BATCH_RECORDS {
+        gates.remove(0);
+    }
+    gates.push(at)?;
+    Ok(())
+}
 
 /// Writes the gates of the last records once more, as many as a batch has at most, and syncs the file. So one of them
 /// is the gate by which the last batch counts. The file stays as it is, whatever a crash makes of it.
-pub(crate) fn open_again<C: Calls, A: Allocator + Copy>(
-    device: &mut StoreFile<C, A>,
-    found: &Found<A>,
+pub(crate) fn open_again<C: Calls>(
+    device: &mut StoreFile<C>,
+    gates: &[usize],
 ) -> Result<(), DeviceError>
-    requires settled { IsSettledAt ⟦<StoreFile<C, A> as Device>⟧.seen ⟦<StoreFile<C, A> as Device>⟧.may_leave
-        found.now.head found.now.records device.old found.now.end found.now.digest }
-    ensures still { IsStill (C.Calls.history device.old.calls) (C.Calls.history device.new.calls) }
-    ensures written { OnOk result (AreOpenedAgain found.now.head found.now.records
+    ensures still { (head : Head) (records : List AnyEntry) (end : ℕ) (digest : List ℕ) →
+        IsSettledAt ⟦<StoreFile<C> as Device>⟧.seen ⟦<StoreFile<C> as Device>⟧.may_leave head records device.old end
+        digest → HasGates head records gates.now → IsStill (C.Calls.history device.old.calls)
+        (C.Calls.history device.new.calls) }
+    ensures written { (head : Head) (records : List AnyEntry) (end : ℕ) (digest : List ℕ) →
+        IsSettledAt ⟦<StoreFile<C> as Device>⟧.seen ⟦<StoreFile<C> as Device>⟧.may_leave head records device.old end
+        digest → HasGates head records gates.now → OnOk result (AreOpenedAgain head records
         (C.Calls.history device.old.calls) (C.Calls.history device.new.calls)) }
 {
-    let records = found.records.as_slice();
-    let least = records.len().saturating_sub(BATCH_RECORDS);
-    let mut left = records.len();
-    let mut at = found.end;
-    'gates: while left > least {
+    let mut left = gates.len();
+    'gates: while left > 0 {
         left -= 1;
-        at -= frame_size(&records[left]);
-        if let Err(error) = device.write_again(at) {
+        if let Err(error) = device.write_again(gates[left]) {
             return Err(error);
         }
     }
     device.sync_again()
-}
-
-/// How many bytes a record has in version 2.
-fn frame_size<A: Allocator>(entry: &Entry<A>) -> usize
-    requires sized { IsSized entry.now }
-    requires named { length entry.now.stamp.name < 2 ^ 8 }
-    ensures { result ≡ 34 + length entry.now.stamp.name + length entry.now.bundle }
-{
-    FRAME + entry.stamp().name().len() + entry.bundle().len()
 }

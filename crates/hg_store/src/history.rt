@@ -22,6 +22,8 @@ impl Model for History {
 pub enum Call<'a> {
     /// The file was synced, what the system kept of it was dropped, and these bytes were read.
     Began(&'a [u8]),
+    /// Of a file that is read, these bytes came next.
+    Read(&'a [u8]),
     /// These bytes were written from that place on.
     Wrote(usize, &'a [u8], bool),
     /// The file was cut to that length.
@@ -41,6 +43,7 @@ pub enum Call<'a> {
 }
 
 impl History {
+    ghost use Rattle.hg_store.specs.Calls.{began, bytes_in};
     ghost use Rattle.hg_store.specs.History.{event_of};
 
     /// The history of a file that was not called yet.
@@ -53,6 +56,13 @@ impl History {
     /// The history with one call more.
     pub fn and(&self, _call: &Call<'_>) -> History
         ensures { result.events ≡ event_of _call.now ∷ self.now.events }
+    {
+        History {}
+    }
+
+    /// The history with one call more: a file was read, of which these pieces came.
+    pub fn and_read(&self, _pieces: &History) -> History
+        ensures { result.events ≡ began (bytes_in _pieces.now.events) ∷ self.now.events }
     {
         History {}
     }

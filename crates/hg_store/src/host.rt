@@ -1,12 +1,13 @@
 //! A file of the system.
 
-ghost use Rattle.std.specs.Prelude.{◌≡◌, ◌∷◌, [], true};
+ghost use Rattle.std.specs.Prelude.{◌≡◌, ◌++◌, ◌∷◌, [], true};
+ghost use Rattle.hg_store.specs.Calls.{bytes_in};
 ghost use Rattle.hg_store.specs.History.{event_of};
 
 use crate::calls::Calls;
 use crate::device::DeviceError;
 use crate::history::{Call, History};
-use hg_types::Seq;
+use crate::pieces::read_up_to;
 use std::alloc::Allocator;
 use std::fs::File;
 use std::io;
@@ -60,7 +61,11 @@ pub struct HostFile {
     is_begun: bool,
     /// Whether another has changed it.
     is_foreign: bool,
+    /// Whether its end was met where it was read last.
+    pub(crate) is_over: bool,
     pub(crate) history: History,
+    /// What came of it since it was begun, piece by piece.
+    pub(crate) pieces: History,
 }
 
 impl HostFile {
@@ -73,7 +78,9 @@ impl HostFile {
             signs: None,
             is_begun: false,
             is_foreign: false,
+            is_over: false,
             history: History::new(),
+            pieces: History::new(),
         }
     }
 
@@ -84,16 +91,29 @@ impl HostFile {
         self.is_foreign
     }
 
-    /// All of its bytes, read from the disk. From then on it is the file that it was then.
-    fn read_own<A: Allocator + Copy>(&mut self, alloc: A) -> io::Result<Vec<u8, A>>
+    /// Begins it anew. From then on it is the file that it is then, as long as what is read of it.
+    fn begin_own(&mut self) -> io::Result<()>
         ensures { self.new.history ≡ self.old.history }
     {
-        let bytes = read_anew(alloc, &mut self.file)?;
+        begin_anew(&mut self.file)?;
         let mut signs = Signs::of(&self.file)?;
-        signs.length = bytes.len() as u64;
+        signs.length = 0;
         self.signs = Some(signs);
         self.is_begun = false;
-        Ok(bytes)
+        Ok(())
+    }
+
+    /// Remembers a piece that was read, and whether it is shorter than it could be.
+    fn remember(&mut self, piece: &[u8], is_over: bool)
+        ensures history { self.new.history ≡ self.old.history }
+        ensures pieces { bytes_in self.new.pieces.events ≡ bytes_in self.old.pieces.events ++ piece.now }
+        ensures over { self.new.is_over ≡ is_over }
+    {
+        if let Some(signs) = &mut self.signs {
+            signs.length = signs.length.saturating_add(piece.len() as u64);
+        }
+        self.is_over = is_over;
+        self.pieces = self.pieces.and(&Call::Read(piece));
     }
 
     /// Looks whether the file is still the one that was read, where a batch of changes begins.
@@ -161,16 +181,16 @@ pub fn read_all<A: Allocator + Copy>(alloc: A, file: &mut File) -> io::Result<Ve
     Ok(bytes)
 }
 
-/// All bytes of a file, read from the disk: what the system keeps of it is brought there and dropped first,
-/// since after a sync that failed it may be other than what the disk has.
-fn read_anew<A: Allocator + Copy>(alloc: A, file: &mut File) -> io::Result<Vec<u8, A>> {
+/// Goes to the first byte of a file, of which then is read what the disk has: what the system keeps of it is brought
+/// there and dropped first, since after a sync that failed it may be other than what the disk has.
+fn begin_anew(file: &mut File) -> io::Result<()> {
     file.sync_all()?;
     let advised = libc::posix_fadvise(file.as_raw_fd(), 0, 0, libc::POSIX_FADV_DONTNEED);
     if advised != 0 {
         return Err(io::Error::from_raw_os_error(advised));
     }
     file.seek(SeekFrom::Start(0))?;
-    read_all(alloc, file)
+    Ok(())
 }
 
 /// The error of the system as a device reports it.
@@ -184,14 +204,35 @@ pub(crate) fn device_error(error: io::Error) -> DeviceError {
 impl Calls for HostFile {
     ghost history = { λ f. f.history.events };
 
-    fn begin<A: Allocator + Copy>(&mut self, alloc: A) -> Result<Seq<u8, A>, DeviceError> {
-        match self.read_own(alloc) {
-            Ok(bytes) => {
-                self.note(&Call::Began(&bytes));
-                Ok(Seq::from_vec(bytes))
+    ghost drawn = { λ f. bytes_in f.pieces.events };
+
+    ghost is_over = { λ f. f.is_over };
+
+    fn begin(&mut self) -> Result<(), DeviceError> {
+        match self.begin_own() {
+            Ok(()) => {
+                self.pieces = History::new();
+                self.is_over = false;
+                Ok(())
             }
             Err(error) => Err(device_error(error)),
         }
+    }
+
+    fn read_on<A: Allocator>(
+        &mut self,
+        count: usize,
+        bytes: &mut Vec<u8, A>,
+    ) -> Result<(), DeviceError> {
+        let before = bytes.len();
+        read_up_to(&mut self.file, count, bytes)?;
+        let (_earlier, piece) = bytes.split_at(before);
+        self.remember(piece, piece.len() < count);
+        Ok(())
+    }
+
+    fn note_read(&mut self) {
+        self.history = self.history.and_read(&self.pieces);
     }
 
     fn write(&mut self, at: usize, bytes: &[u8]) -> io::Result<()> {

@@ -46,6 +46,7 @@ mod device;
 mod entry;
 mod file;
 mod folder;
+mod front;
 mod gates;
 mod head;
 mod history;
@@ -54,6 +55,7 @@ mod kept;
 pub mod laws;
 mod log;
 mod names;
+mod noted;
 mod numbers;
 mod opening;
 mod pieces;
@@ -70,15 +72,17 @@ pub use device::{Device, DeviceError};
 pub use entry::{Entry, Stamp, Standing};
 pub use file::StoreFile;
 pub use folder::{
-    create_store, kept_file, make_folder, new_identity, new_store, open_held, open_store,
+    begin_store, create_store, kept_file, make_folder, new_identity, new_store, open_held,
     store_file,
 };
+pub use front::{Opening, open_file, pass_records};
 pub use head::{Head, HeadFault, Setup, Version};
 pub use history::{Call, History};
 pub use host::{HostFile, read_all};
 pub use kept::KeptTail;
 pub use log::Log;
 pub use names::StoreFolder;
+pub use noted::NotedRecords;
 pub use opening::{RecoverFault, recover};
 pub use pieces::{HeadStop, RecordStop, read_head, read_record};
 pub use place::{NewFile, bytes_at_rest, create_file, put_whole};
@@ -86,5 +90,5 @@ pub use placed::PlacedFile;
 pub use read::{Found, ReadFault, read_records};
 pub use record::{NoRecord, next_record, put_record};
 pub use sealed::Sealed;
-pub use start::{Opened, StoreFault, Unopened, open_file};
+pub use start::{Opened, StoreFault, Unopened};
 pub use tail::{BATCH_BYTES, BATCH_RECORDS, TailFault, TailKeeper};

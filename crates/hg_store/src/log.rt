@@ -25,7 +25,7 @@ use hg_types::NoMemory;
 use std::alloc::Allocator;
 
 /// How long a file may be before a batch.
-const MOST_BYTES: usize = 1 << 62;
+pub(crate) const MOST_BYTES: usize = 1 << 62;
 
 /// A store of version 2 that is open for more: the place of its shut gate, and the digest of its last record.
 #[derive(Drop)]

@@ -12,7 +12,7 @@ use std::alloc::Allocator;
 const FIRST: usize = 4;
 
 /// How many bytes those of one of version 2 have.
-const SECOND: usize = 13;
+pub(crate) const SECOND: usize = 13;
 
 /// How many bytes the bundle of a record has, when it came, and how many bytes the name has of who pushed it. In
 /// version 1 there are no time and no name, and these numbers are 0.

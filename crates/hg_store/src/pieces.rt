@@ -80,7 +80,7 @@ pub fn read_head<R: Read, A: Allocator + Copy>(
 }
 
 /// Whether so many bytes, which are no head for that reason, are those of a longer one.
-fn is_begun(fault: HeadFault, len: usize) -> bool
+pub(crate) fn is_begun(fault: HeadFault, len: usize) -> bool
     ensures begun { result ≡ true → (fault ≡ HeadFault.TooShort) × (len ≡ 38) }
     ensures over { result ≡ false → fault ≡ HeadFault.TooShort → len ≢ 38 }
 {
@@ -237,7 +237,7 @@ fn refill<R: Read, A: Allocator>(
 }
 
 /// Appends so many bytes of the reader, or those that it has, where they are fewer.
-fn read_up_to<R: Read, A: Allocator>(
+pub(crate) fn read_up_to<R: Read, A: Allocator>(
     reader: &mut R,
     count: usize,
     bytes: &mut Vec<u8, A>,

@@ -1,13 +1,14 @@
 //! Files of the system in a folder: how one is held, and a new one that gets its name once it is whole.
 
 ghost use Rattle.std.specs.Prelude.{◌≡◌, [], IfOk, IfSome};
+ghost use Rattle.hg_store.specs.Calls.{bytes_in};
 
 use crate::calls::Calls;
 use crate::device::DeviceError;
 use crate::history::Call;
 use crate::host::HostFile;
 use crate::place::NewFile;
-use hg_types::{NoMemory, Seq};
+use hg_types::NoMemory;
 use std::alloc::Allocator;
 use std::fs::{File, Files, OpenOptions, TryLockError};
 use std::io::ErrorKind;
@@ -174,8 +175,24 @@ impl<'a, R: Files<File = File>, A: Allocator + Copy> PlacedFile<'a, R, A> {
 impl<'a, R: Files<File = File>, A: Allocator + Copy> Calls for PlacedFile<'a, R, A> {
     ghost history = { λ f. f.host.history.events };
 
-    fn begin<B: Allocator + Copy>(&mut self, alloc: B) -> Result<Seq<u8, B>, DeviceError> {
-        self.host.begin(alloc)
+    ghost drawn = { λ f. bytes_in f.host.pieces.events };
+
+    ghost is_over = { λ f. f.host.is_over };
+
+    fn begin(&mut self) -> Result<(), DeviceError> {
+        self.host.begin()
+    }
+
+    fn read_on<B: Allocator>(
+        &mut self,
+        count: usize,
+        bytes: &mut Vec<u8, B>,
+    ) -> Result<(), DeviceError> {
+        self.host.read_on(count, bytes)
+    }
+
+    fn note_read(&mut self) {
+        self.host.note_read();
     }
 
     fn write(&mut self, at: usize, bytes: &[u8]) -> io::Result<()> {

@@ -99,9 +99,9 @@ fn opened<A: Allocator + Copy>(
     alloc: A,
     paper: Paper,
     drawer: &mut Drawer,
-) -> Result<Opened<Paper, A>, StoreFault>
+) -> Result<Opened<Paper>, StoreFault>
     ensures { IfOk result (λ opened. (head : AnyHead) × (records : List AnyEntry)
-        × IsSettled ⟦<StoreFile<Paper, A> as Device>⟧.seen ⟦<StoreFile<Paper, A> as Device>⟧.may_leave
+        × IsSettled ⟦<StoreFile<Paper> as Device>⟧.seen ⟦<StoreFile<Paper> as Device>⟧.may_leave
         head records opened.log) }
 {
     match open_file(alloc, paper, &standard(), drawer) {
@@ -112,13 +112,13 @@ fn opened<A: Allocator + Copy>(
 
 /// Adds a batch to a log, and gives up the log: whether it was added, and the file.
 fn added<A: Allocator + Copy>(
-    log: Log<StoreFile<Paper, A>>,
+    log: Log<StoreFile<Paper>>,
     batch: &[Sealed<A>],
 ) -> (Result<(), DeviceError>, Paper)
     requires some { 0 < length batch.now }
     requires each { AllByRecursion IsSized batch.now }
     requires settled { (head : AnyHead) × (records : List AnyEntry)
-        × IsSettled ⟦<StoreFile<Paper, A> as Device>⟧.seen ⟦<StoreFile<Paper, A> as Device>⟧.may_leave
+        × IsSettled ⟦<StoreFile<Paper> as Device>⟧.seen ⟦<StoreFile<Paper> as Device>⟧.may_leave
         head records log }
 {
     let mut log = log;
@@ -127,7 +127,7 @@ fn added<A: Allocator + Copy>(
 }
 
 /// The file of a log that is given up.
-fn paper_of<A: Allocator + Copy>(log: Log<StoreFile<Paper, A>>) -> Paper {
+fn paper_of(log: Log<StoreFile<Paper>>) -> Paper {
     let Log {
         device,
         end: _,
@@ -160,16 +160,11 @@ fn a_batch_on_a_file_that_fails(rt: HostRuntime) -> Result<(), Fail> {
         let batch = records(alloc, 1, size + 1)?;
         let all = size.saturating_mul(4).saturating_add(4);
         for calls in 0..all.saturating_add(1) {
-            let Opened {
-                log,
-                records: had,
-                ..
-            } = opened(
+            let Opened { log, .. } = opened(
                 alloc,
                 paper_with(alloc, calls, NO_LIMIT)?,
                 &mut Drawer::new(alloc),
             )?;
-            drop(had);
             let (result, paper) = added(log, &batch);
             assert_eq!(rt;
                 result.is_ok(),
@@ -194,16 +189,11 @@ fn a_batch_on_a_full_disk(rt: HostRuntime) -> Result<(), Fail> {
     let after = store_of(alloc, 3)?.len();
     let batch = records(alloc, 1, 3)?;
     for room in before..after.saturating_add(2) {
-        let Opened {
-            log,
-            records: had,
-            ..
-        } = opened(
+        let Opened { log, .. } = opened(
             alloc,
             paper_with(alloc, NO_LIMIT, room)?,
             &mut Drawer::new(alloc),
         )?;
-        drop(had);
         let (result, paper) = added(log, &batch);
         assert_eq!(rt; result.is_ok(), room >= after, "room for {room}");
         let so = has_all_or_none(alloc, &paper, 2, room >= after)?;
@@ -220,16 +210,11 @@ fn a_file_after_a_failure(rt: HostRuntime) -> Result<(), Fail> {
     let alloc = rt.alloc();
     let batch = records(alloc, 1, 2)?;
     let room = store_of(alloc, 1)?.len();
-    let Opened {
-        log,
-        records: had,
-        ..
-    } = opened(
+    let Opened { log, .. } = opened(
         alloc,
         paper_with(alloc, NO_LIMIT, room)?,
         &mut Drawer::new(alloc),
     )?;
-    drop(had);
     let mut log = log;
     assert_eq!(rt; log.append(&batch), Err(DeviceError::Failed));
     assert_eq!(rt; log.device.write_at(0, b"X"), Err(DeviceError::Failed));
@@ -261,23 +246,16 @@ fn have_bytes(alloc: Global, paper: &Paper, bytes: &[u8]) -> Result<bool, Fail> 
     Ok(so)
 }
 
-/// How many records a store has that is brought in order, where so many calls succeed, and its file then.
+/// How many records a store has that is opened, where so many calls succeed, and its file then.
 fn brought_in_order(
     alloc: Global,
     file: &[u8],
     calls: usize,
-) -> Result<(Result<usize, RecoverFault>, Paper), Fail> {
-    let mut paper = Paper::new(alloc, file, calls)?;
-    match paper.begin(alloc) {
-        Ok(bytes) => {
-            let mut device = StoreFile::of(paper, bytes);
-            let found = match recover(alloc, &mut device, &mut Drawer::new(alloc)) {
-                Ok(found) => Ok(found.records.len()),
-                Err(fault) => Err(fault),
-            };
-            Ok((found, device.into_calls()))
-        }
-        Err(fault) => Ok((Err(RecoverFault::Device(fault)), paper)),
+) -> Result<(Result<usize, StoreFault>, Paper), Fail> {
+    let paper = Paper::new(alloc, file, calls)?;
+    match open_file(alloc, paper, &standard(), &mut Drawer::new(alloc)) {
+        Ok(opened) => Ok((Ok(opened.stored), paper_of(opened.log))),
+        Err(left) => Ok((Err(left.fault), left.calls)),
     }
 }
 
@@ -295,15 +273,15 @@ fn a_store_that_is_opened_again(rt: HostRuntime) -> Result<(), Fail> {
         if kind == 2 {
             file.extend_from_slice(&[1, 2, 3, 0])?;
         }
-        for calls in 0..4usize {
+        for calls in 0..7usize {
             let (found, paper) = brought_in_order(alloc, &file, calls)?;
-            let wanted = if calls == 3 {
+            let wanted = if calls == 6 {
                 Ok(2)
             } else {
-                Err(RecoverFault::Device(DeviceError::Failed))
+                Err(StoreFault::from(DeviceError::Failed))
             };
             assert_eq!(rt; found, wanted, "{calls} calls");
-            if calls == 3 {
+            if calls == 6 {
                 assert_eq!(rt; paper.synced.as_slice(), rest.as_slice());
             }
             assert!(rt; have_two(alloc, &paper)?);
@@ -398,14 +376,17 @@ fn a_file_that_is_put_whole(rt: HostRuntime) -> Result<(), Fail> {
 
 /// A device over six bytes of which so many calls succeed after they were read.
 fn six_bytes(alloc: Global, calls: usize) -> Result<StoreFile<Paper>, DeviceError>
-    ensures { IfOk result (λ device. length (⟦<StoreFile<Paper, Global> as Device>⟧.seen device) ≡ 6) }
+    ensures { IfOk result (λ device. length (⟦<StoreFile<Paper> as Device>⟧.seen device) ≡ 6) }
 {
     let mut paper = Paper::new(alloc, b"abcdef", calls.saturating_add(1))?;
-    let bytes = paper.begin(alloc)?;
+    let mut bytes = Vec::new(alloc);
+    paper.begin()?;
+    paper.read_on(7, &mut bytes)?;
     if bytes.len() != 6 {
         return Err(DeviceError::Failed);
     }
-    Ok(StoreFile::of(paper, bytes))
+    paper.note_read();
+    Ok(StoreFile::of(paper))
 }
 
 /// Writes within the file or at its end, which is then as long as that at least.
@@ -431,7 +412,6 @@ fn cut<D: Device>(device: &mut D, len: usize) -> Result<(), DeviceError>
 fn writes_and_cuts_of_a_device(rt: HostRuntime) -> Result<(), Fail> {
     let alloc = rt.alloc();
     let mut device = six_bytes(alloc, 3)?;
-    assert_eq!(rt; device.read(alloc)?.as_slice(), b"abcdef".as_slice());
     write(&mut device, 2, b"XY")?;
     write(&mut device, 5, b"ZZZ")?;
     write(&mut device, 8, b"!")?;
@@ -537,17 +517,12 @@ fn refused_over(fault: StoreFault) -> Came {
     }
 }
 
-/// Opens a store over a heap, gives up its records, makes a batch, takes all that is left of the heap, and adds the
+/// Opens a store over a heap, makes a batch, takes all that is left of the heap, and adds the
 /// batch.
 fn added_over(alloc: Global, heap: &LocalHeap, paper: Paper) -> Result<Came, Fail> {
     match opened(heap, paper, &mut Drawer::new(alloc)) {
         Ok(opened) => {
-            let Opened {
-                log,
-                records: had,
-                ..
-            } = opened;
-            drop(had);
+            let Opened { log, .. } = opened;
             let Ok(batch) = records(heap, 1, 3) else {
                 return Ok(Came::NoBatch);
             };

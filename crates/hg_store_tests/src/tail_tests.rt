@@ -2,6 +2,7 @@
 
 use crate::tests::put_next;
 use hg_help_store_tests::drawer::Drawer;
+use hg_help_store_tests::folder::open_store;
 use hg_help_store_tests::paper::Paper;
 use hg_store::*;
 use hg_types::Limits;
@@ -62,7 +63,7 @@ fn opened(alloc: Global, file: &[u8], calls: usize, fails: bool) -> Result<Came,
     drawer.fails = fails;
     match open_file(alloc, paper, &standard(), &mut drawer) {
         Ok(opened) => Ok(Came {
-            records: Ok(opened.records.len()),
+            records: Ok(opened.stored),
             paper: opened.log.device.into_calls(),
             drawer,
         }),

@@ -5,7 +5,8 @@ ghost use Rattle.std.specs.List.{AllByRecursion};
 ghost use Rattle.hg_store.specs.Records.{IsSized};
 
 use crate::made::*;
-use hg_store::{RecoverFault, Sealed, Stamp, StoreFault, StoreFolder, create_store, open_store};
+use hg_help_store_tests::folder::open_store;
+use hg_store::{RecoverFault, Sealed, Stamp, StoreFault, StoreFolder, create_store};
 use hg_store_tools::*;
 use hg_types::{NoMemory, Seq};
 use std::alloc::Global;
@@ -203,7 +204,7 @@ fn a_cut_in_a_folder(rt: HostRuntime) -> Result<(), Fail> {
     assert!(rt; fs::read(&rt, name)?.as_slice() == file.as_slice());
     assert!(rt; fs::read(&rt, "hg_tools_cut/pushes.cut-1")?.len() == 80);
     let opened = open_store(alloc, &mut StoreFolder::new(&rt, folder), &setup(false))?;
-    assert_eq!(rt; opened.records.len(), 3);
+    assert_eq!(rt; opened.stored, 3);
     drop(opened);
     fs::remove_dir_all(&rt, folder)?;
     Ok(())
@@ -226,7 +227,7 @@ fn an_upgrade_in_a_folder(rt: HostRuntime) -> Result<(), Fail> {
     assert!(rt; upgrade_store(&rt, alloc, folder) == Ok(()));
     assert!(rt; fs::read(&rt, "hg_tools_upgraded/pushes.1")?.as_slice() == old.as_slice());
     let opened = open_store(alloc, &mut StoreFolder::new(&rt, folder), &setup(false))?;
-    assert_eq!(rt; opened.records.len(), 3);
+    assert_eq!(rt; opened.stored, 3);
     drop(opened);
     let again = ArchiveFault {
         file: NamedFile::Store(folder),
@@ -262,7 +263,7 @@ fn a_cut_of_what_is_hidden(rt: HostRuntime) -> Result<(), Fail> {
     let tail = fs::read(&rt, "hg_tools_hidden/pushes.tail-1")?;
     assert!(rt; file.as_slice().get(gate..) == Some(tail.as_slice()));
     let opened = open_store(alloc, &mut StoreFolder::new(&rt, folder), &setup(false))?;
-    assert_eq!(rt; opened.records.len(), 1);
+    assert_eq!(rt; opened.stored, 1);
     drop(opened);
     fs::remove_dir_all(&rt, folder)?;
     Ok(())

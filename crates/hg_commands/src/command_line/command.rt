@@ -4,6 +4,7 @@ use crate::command_line::archive::{
     CUT, LOG, REPORT, UPGRADE, list_fault, read_cut, read_log, read_report, read_upgrade,
 };
 use crate::command_line::hosting::{HOST, Hosting, read_hosting};
+use crate::command_line::importing::{IMPORT, Importing, read_importing};
 use crate::command_line::options::{CommandRow, Kind, OptionRow, PUBLISHING, command_of};
 use crate::command_line::serving::{SERVE, Serving, read_serving};
 use clap::error::ErrorKind;
@@ -28,6 +29,8 @@ pub enum Job<'a> {
     Serve(Serving<'a>),
     /// A store, and connections over HTTP, until the process is ended.
     Host(Hosting<'a>),
+    /// The pushes of files, one after the other, into a store.
+    Import(Importing<'a>),
     /// What a store holds, to standard output.
     Report {
         store: &'a str,
@@ -87,7 +90,9 @@ const REPLAY: CommandRow<'static> = CommandRow {
 };
 
 /// The commands, in the order in which help has them.
-const COMMANDS: [CommandRow<'static>; 8] = [ONE, REPLAY, SERVE, HOST, REPORT, LOG, CUT, UPGRADE];
+const COMMANDS: [CommandRow<'static>; 9] = [
+    ONE, REPLAY, SERVE, HOST, IMPORT, REPORT, LOG, CUT, UPGRADE,
+];
 
 /// How the program ends.
 const STATUSES: &str =
@@ -119,7 +124,7 @@ fn commands_of<'a>(alloc: Global, rows: &[CommandRow<'a>]) -> Result<Vec<Command
 }
 
 /// The files that are named.
-fn files_of<'a>(alloc: Global, matches: &ArgMatches<'a>) -> Result<Vec<&'a str>, AllocError> {
+pub fn files_of<'a>(alloc: Global, matches: &ArgMatches<'a>) -> Result<Vec<&'a str>, AllocError> {
     listed(alloc, matches.get_strs("FILES"))
 }
 
@@ -147,6 +152,7 @@ fn read_command<'a>(
         "replay" => read_replay(alloc, inner),
         "serve" => Ok(Job::Serve(read_serving(inner))),
         "host" => Ok(Job::Host(read_hosting(inner))),
+        "import" => Ok(Job::Import(read_importing(alloc, inner)?)),
         "report" => Ok(read_report(inner)),
         "log" => Ok(read_log(inner)),
         "cut" => Ok(read_cut(inner)),

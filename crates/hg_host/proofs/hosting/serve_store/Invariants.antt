@@ -1,5 +1,5 @@
 use Rattle.hg_queue.specs.Words.{id_of, capacity_of}
-use Rattle.hg_recovery.specs.Opening.{head_of, records_of}
+use Rattle.hg_recovery.specs.Opening.{head_of}
 use Rattle.hg_host.proofs.hosting.serve_store.Given as goal
 
 abbrev pub ghosts-host_named-J-Naming : goal.ghosts-host_named-J-Naming
@@ -10,7 +10,7 @@ abbrev pub ghosts-host_named-J-Storing : goal.ghosts-host_named-J-Storing
 ghosts-host_named-J-Storing g a =
     record {
       head = head_of a.recovered.publishing a.recovered.identity;
-      stored = records_of a.recovered.records.items;
+      stored = a.recovered.records.entries;
       opened = g.D.Device.moment a.recovered.log.device;
       tally = a.tally.id;
       beats = a.terms.shared;

@@ -1,0 +1,6 @@
+mod Adding
+mod Feeding
+mod Fronts
+mod Pushes
+mod Rows
+mod Stopping

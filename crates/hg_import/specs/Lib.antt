@@ -1,0 +1,4 @@
+pub mod Pushing
+pub mod Lines
+pub mod Imports
+pub mod Statuses
