@@ -1,17 +1,19 @@
 -- A store that is made where there is none.
-use Rattle.std.proofs.Common.{◌≡◌, inl, inr, ℕ, List, ◌∷◌, ap, arith, refl, subst, sym}
+use Rattle.std.proofs.Common.{◌≡◌, inl, inr, List, ◌∷◌, ap, arith, refl, subst, sym}
 use Rattle.std.specs.Prelude.{Result, Ok, Err, MatchResult}
 use Rattle.hg_store.specs.Calls.{Event, missed}
-use Rattle.hg_store.specs.Tails.{IsKeptAtMost, LosesNothing, tails_in}
+use Rattle.hg_store.specs.Tails.{IsKeptAtMost, tails_in}
 use Rattle.hg_store.specs.Folders.{IsMadeAtMost, IsMissedAtMost, IsMissedFor}
 use Rattle.hg_store.specs.declared.start.StoreFault.{StoreFault}
-use Rattle.hg_store.specs.declared.start.StoreFault.TheVariants.{Missing, Exists, Held, Linked, OtherPublishing, OtherLimits, Recover}
+use Rattle.hg_store.specs.declared.start.StoreFault.TheVariants.{Missing, Exists, Held, Linked}
+use Rattle.hg_store.specs.declared.start.StoreFault.TheVariants.{OtherPublishing, OtherLimits, Recover}
 use Rattle.hg_recovery.specs.Opening.{AreNamesIf, IsBegunIf}
 use Rattle.hg_recovery.specs.declared.opening.IfMissing.{IfMissing}
 use Rattle.hg_recovery.specs.declared.opening.IfMissing.TheVariants.{Create, Refuse}
 
 -- what is noted where a store was looked for, and nothing else done
-pub missed_for : (fault : StoreFault) (before now : List Event) → IsMissedFor fault before now → IsMissedAtMost before now
+pub missed_for : (fault : StoreFault) (before now : List Event) → IsMissedFor fault before now
+    → IsMissedAtMost before now
 missed_for Missing before now looked = inr looked
 missed_for Exists before now looked = inl (inl looked)
 missed_for Held before now looked = inl (inl looked)
@@ -20,7 +22,8 @@ missed_for OtherPublishing before now looked = inl (inl looked)
 missed_for OtherLimits before now looked = inl (inl looked)
 missed_for (Recover fault) before now looked = inl (inl looked)
 
-tails_for : (fault : StoreFault) (before now : List Event) → IsMissedFor fault before now → tails_in now ≡ tails_in before
+tails_for : (fault : StoreFault) (before now : List Event) → IsMissedFor fault before now
+    → tails_in now ≡ tails_in before
 tails_for Missing before now looked = omega (arith, ap tails_in looked)
 tails_for Exists before now looked = ap tails_in looked
 tails_for Held before now looked = ap tails_in looked
@@ -55,11 +58,10 @@ once_for fault before now (inl kept) = inl kept
 once_for fault before now (inr none) = inr (missed ∷ before, inl refl, inl (inl none))
 
 -- it was looked for once, and would be made
-pub once_made : {T : Type 0} (r : Result T StoreFault) (before now : List Event)
-    → MatchResult r (λ _. now ≡ before) (λ fault. IsMissedFor fault before now)
-    → MatchResult r (λ _. IsBegunIf Create before now) (λ _. AreNamesIf Create before now)
-once_made (Ok found) before now same = inl same
-once_made (Err fault) before now looked = once_for fault before now (missed_for fault before now looked)
+pub once_named : {T : Type 0} (r : Result T StoreFault) (before now : List Event)
+    → MatchResult r (λ _. now ≡ before) (λ fault. IsMissedFor fault before now) → AreNamesIf Create before now
+once_named (Ok found) before now same = inl (inl same)
+once_named (Err fault) before now looked = once_for fault before now (missed_for fault before now looked)
 
 -- there was none, and one was made and looked for
 pub made_then : {T : Type 0} (r : Result T StoreFault) (before none made now : List Event) → none ≡ missed ∷ before
@@ -80,7 +82,8 @@ unmade_then before none made is made_is =
 -- it was begun, and then its tail was kept at most
 pub names_if : (if_missing : IfMissing) (before mid now : List Event) → IsBegunIf if_missing before mid
     → IsKeptAtMost mid now → AreNamesIf if_missing before now
-names_if Create before mid now (inl same) kept = inl (subst (λ (events : List Event). IsKeptAtMost events now) same kept)
+names_if Create before mid now (inl same) kept =
+    inl (subst (λ (events : List Event). IsKeptAtMost events now) same kept)
 names_if Create before mid now (inr made) kept = inr (mid, made, inl kept)
 names_if Refuse before mid now same kept = inl (subst (λ (events : List Event). IsKeptAtMost events now) same kept)
 

@@ -104,8 +104,8 @@ pub enum IfMissing {
 
 /// Opens the store in a folder: its records are read and run, one by one, on the empty repository, in memory for one of
 /// them. Where there is none it is made, or missing. It is held against other processes. A store that is refused is as
-/// it was, also where one of its records is not run. What one had after its last whole record is kept in a file beside it
-/// before it is cut off, unless each byte of it is 0.
+/// it was, also where one of its records is not run. What one had after its last whole record is kept in a file beside
+/// it before it is cut off, unless each byte of it is 0.
 pub fn recover_store<R: Files<File = File>>(
     alloc: Global,
     state: RandomState,
@@ -234,8 +234,8 @@ fn begin_or_create<R: Files<File = File>>(
     }
 }
 
-/// Reads the records of a store, and runs each on the empty repository as it comes. An `Err` says why one of them is not
-/// read or not run.
+/// Reads the records of a store, and runs each on the empty repository as it comes. An `Err` says why one of them is
+/// not read or not run.
 fn run_records(
     alloc: Global,
     state: RandomState,

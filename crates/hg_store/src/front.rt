@@ -127,11 +127,7 @@ impl<C: Calls, A: Allocator + Copy> Opening<C, A> {
     /// is 0, and then what stands after a shut gate is cut off, and where there is no gate a shut one is written; then
     /// the gates of the last records are written once more, and all is on the device. One that hides more records than
     /// one batch holds is refused, and nothing in it is changed.
-    pub fn finish<K: TailKeeper>(
-        self,
-        alloc: A,
-        keeper: &mut K,
-    ) -> Result<Opened<C>, Unopened<C>>
+    pub fn finish<K: TailKeeper>(self, alloc: A, keeper: &mut K) -> Result<Opened<C>, Unopened<C>>
         requires { (setup : AnySetup) × HasEnded C.Calls.drawn setup self }
         ensures settled { (setup : AnySetup) → HasEnded C.Calls.drawn setup self →
             IfOk result (λ opened. IsSettled ⟦<StoreFile<C> as Device>⟧.seen ⟦<StoreFile<C> as Device>⟧.may_leave

@@ -39,8 +39,7 @@ returns-in_ok-add_gate-in-Ok-clause-read g c = λ setup has.
     let grown : c.and-self.result.entries ≡ records ++ found ∷ [] = c.and-self.ensures in
     let size : ℕ = length c.record.inside.bundle.now in
     let held = bundle_at digest found items behind size (c.len.result - size) spelled none
-    (omega (arith, ap (λ (e : Entry). length e.bundle) c.record.view_is)) (omega (arith, c.len.ensures)) in
-    (
+    (omega (arith, ap (λ (e : Entry). length e.bundle) c.record.view_is)) (omega (arith, c.len.ensures)) in (
       record {
         allowed = has.allowed;
         each = subst (AllByRecursion (IsRecord Second)) (sym grown) (each-push Second records found has.each next.is);
