@@ -946,30 +946,52 @@ def an_existing_repository_is_brought_in(host):
 
 @with_hg
 def a_repository_is_brought_in_by_pieces(host):
-    """40 changesets, three at a time, by examples/import.sh; the server is killed once, and the script run again."""
+    """40 changesets, three at a time, by examples/import.sh; the server is killed once, the script once, and it is run
+    again. Then five more of 300 KB each, of which the server takes some three at a time."""
     host.start()
     client, script = f"{host.folder}/client", f"{os.path.dirname(HERE)}/examples/import.sh"
     host.hg("init", client)
     want("the repository", host.hg("debugbuilddag", "+20:a +10 *a +9 @other", cwd=client)[0], 0)
-    host.hg("bookmark", "-r", "5", "a b", cwd=client)
+    for name, rev in (("a b", "5"), ("-B", "6"), ("hidden", "39")):
+        host.hg("bookmark", "-r", rev, "--", name, cwd=client)
     host.hg("phase", "-f", "-s", "39", cwd=client)
 
-    def bring():
-        return subprocess.run(["bash", script, client, host.url(), "3"], env=host.environment, capture_output=True,
-                              timeout=120, check=False)
+    def bring(size):
+        return subprocess.Popen(["bash", script, client, host.url(), size], env=host.environment,
+                                stdout=subprocess.PIPE, stderr=subprocess.PIPE, start_new_session=True)
 
-    with subprocess.Popen(["bash", script, client, host.url(), "3"], env=host.environment,
-                          stdout=subprocess.PIPE, stderr=subprocess.DEVNULL) as run:
+    def changesets():
+        return sum(it.startswith("C ") for it in host.report().splitlines())
+
+    with bring("3") as run:
         want("the first line", run.stdout.readline(), b"3 of 39 changesets\n")
         host.kill()
-    want("it stops", run.returncode, 1)
+        said = run.communicate(timeout=120)[1].decode()
+    want("it stops", (run.returncode, re.search(r"stopped behind \d+ of 39 changesets, before [0-9a-f]{12};", said) is None),
+         (1, False))
     before = host.start()[1]
     want("what was done stays", 3 <= before < 39, True)
-    done = bring()
-    want(f"run again: {done.stderr}", done.returncode, 0)
-    want("its first line", done.stdout.splitlines()[0], b"%d of 39 changesets" % min(39, before + 3))
-    want("a secret changeset stays", sum(it.startswith("C ") for it in host.report().splitlines()), 39)
-    want("its bookmark", [it.split()[2] for it in host.report().splitlines() if it.startswith("B ")], ["a%20b"])
+    with bring("3") as run:
+        want("the first line of the next run", run.stdout.readline(), b"%d of 39 changesets\n" % min(39, before + 3))
+        os.killpg(run.pid, signal.SIGKILL)
+    before = changesets()
+    want("what was told stays", before >= 6, True)
+    with bring("3") as run:
+        lines, said = run.communicate(timeout=120)
+    want(f"the last run: {said}", (run.returncode, lines.splitlines()[0]),
+         (0, b"%d of 39 changesets" % min(39, before + 3)))
+    want("a secret changeset stays", changesets(), 39)
+    want("bookmarks", sorted(it.split()[2] for it in host.report().splitlines() if it.startswith("B ")),
+         ["%2DB", "a%20b"])
+    host.kill()
+    host.start("--memory", "1048576")
+    for _ in range(5):
+        with open(f"{client}/large", "wb") as file:
+            file.write(os.urandom(300_000))
+        host.hg("commit", "-A", "-m", "large", cwd=client)
+    with bring("10") as run:
+        lines, said = run.communicate(timeout=120)
+    want(f"larger ones: {said}", (run.returncode, changesets(), len(lines.splitlines()) > 3), (0, 44, True))
 
 
 @with_hg

@@ -1,7 +1,7 @@
 """Bundles that are brought into stores by the built program: import.py PROGRAM [NAME..]
 
 Each case runs `import`, and compares the status, the lines, and every byte of the store but the times. One kills it
-while it works, and one brings in a repository by `examples/import.sh`, where there is Mercurial's `hg`.
+while it works. Where there is Mercurial's `hg`, some bring in repositories by `examples/import.sh`.
 """
 import fcntl
 import os
@@ -132,6 +132,43 @@ def bytes_behind_an_end_mark(room):
 
 
 @case
+def pushes_that_a_gate_hides(room):
+    """A gate has turned to 0, and pushes came since: those that it hides are taken back as docs/operating.md says, and
+    the others come behind them."""
+    bundles = notes(8)
+    data, ends = store_of(bundles[:6])
+    since = [put(room, f"since{number}", it) for number, it in enumerate(bundles[6:])]
+    room.store(data[:ends[2]] + SHUT + data[ends[2] + 1:])
+    done = room.start("import", "--store", "store", *since)
+    want("pushes since", (done.returncode, done.stdout), (0, b"2\n3\n"))
+    for words in ("log --store store --from 2 --to since", "cut --store store --at 2"):
+        room.run(words)
+    os.mkdir(room.path("new"))
+    joined = "{ head -c -1 store/pushes; printf '\\377'; tail -c +2 store/pushes.tail-2; } > new/pushes"
+    subprocess.run(["bash", "-c", joined], cwd=room.folder, check=True)
+    want("the bytes of before", read(room.path("new/pushes")), data)
+    room.run("report --store new", journal(6))
+    room.run("import --store new since/0000000002 since/0000000003", b"6\n7\n")
+    want("the bundles", [it for _, _, it in records_in(read(room.path("new/pushes")))], bundles)
+
+
+@case
+def a_store_that_publishes_is_made_of_another(room):
+    """The canonical pushes of a store that does not publish, brought into one that does: the same changesets, all of
+    them public, and the same bookmarks and markers."""
+    for it in (it for it in rows() if not it.publishing):
+        for name in ("all", "public"):
+            shutil.rmtree(room.path(name), ignore_errors=True)
+        room.store(it.store())
+        room.run("log --store store --canonical --to all")
+        files = sorted(f"all/{name}" for name in os.listdir(room.path("all")))
+        room.run(f"import --store public --publishing {' '.join(files)}", lines(len(files)))
+        public = [b" ".join([*line.split()[:3], b"0", b"0"]) if line.startswith(b"C ") else line
+                  for line in (it.report + journal(len(files))).splitlines()]
+        want("the report", room.start("report", "--store", "public").stdout.splitlines(), public)
+
+
+@case
 def stores_that_are_refused(room):
     """Another version, another setting, damage, a torn record, a store that is held, and none where there has to be one:
     nothing is changed or made, and the line names the file."""
@@ -216,38 +253,180 @@ def killed_at_any_moment(room):
     want("the bundles", found, [*all_notes, all_notes[0]])
 
 
-@case
-def a_repository(room):
-    """361 changesets with a branch, a merge and a bookmark, public and draft ones, in pieces of 50; and more later."""
-    if not shutil.which("hg"):
-        return
-    environment = {**os.environ, "HGPLAIN": "1", "HGRCPATH": "", "HG_PUSHD": PROGRAM}
+class Repository:
+    """A repository of Mercurial, what `examples/import.sh` brings in of it, and the store where that comes."""
 
-    def said(*words):
-        done = subprocess.run(words, cwd=room.folder, env=environment, capture_output=True, check=False, timeout=240)
+    def __init__(self, room, dag):
+        self.room = room
+        self.environment = {**os.environ, "HGPLAIN": "1", "HGRCPATH": "", "HG_PUSHD": PROGRAM, "TMPDIR": room.folder}
+        self.hg("init", room.path("old"))
+        self.hg("debugbuilddag", "-n", dag)
+
+    def said(self, *words):
+        done = subprocess.run(words, cwd=self.room.folder, env=self.environment, capture_output=True, check=False,
+                              timeout=240)
         want(f"status of {words[:2]}: {done.stderr[-300:]}", done.returncode, 0)
         return done.stdout
 
-    def held():
-        return sorted(it.split()[2:4] for it in said(PROGRAM, "report", "--store", "store").splitlines()
-                      if it.startswith(b"C "))
+    def hg(self, *words):
+        return self.said("hg", "-R", "old", *words)
 
-    def wanted():
-        text = said("hg", "-R", "old", "log", "-r", "all() - secret()", "-T", "{node} {phase}\n")
-        return sorted([node, b"0" if phase == b"public" else b"1"] for node, phase in map(bytes.split, text.splitlines()))
+    def script(self, *words, **how):
+        return subprocess.Popen(["bash", SCRIPT, "old", "store", *words], cwd=self.room.folder,
+                                env={**self.environment, **how}, stdout=subprocess.PIPE, stderr=subprocess.PIPE,
+                                start_new_session=True)
 
-    said("hg", "init", "old")
-    said("hg", "-R", "old", "debugbuilddag", "-o", "+150:a +50 <a +60 /a +99")
-    said("hg", "-R", "old", "phase", "-f", "-p", "200")
-    said("hg", "-R", "old", "phase", "-f", "-s", "359")
-    said("hg", "-R", "old", "bookmark", "-r", "5", "a b")
-    want("lines", said("bash", SCRIPT, "old", "store", "50"), lines(9))
-    want("the changesets", held(), wanted())
-    mark = said("hg", "-R", "old", "log", "-r", "5", "-T", "B {node} a%20b\n")
-    want("the bookmark", mark in said(PROGRAM, "report", "--store", "store"), True)
-    said("hg", "-R", "old", "phase", "-d", "359")
-    want("lines", said("bash", SCRIPT, "old", "store"), b"9\n10\n")
-    want("the changesets later", held(), wanted())
+    def bring(self, *words, **how):
+        """Its status, its lines, and what it says on standard error."""
+        with self.script(*words, **how) as run:
+            lines, told = run.communicate(timeout=240)
+        return run.returncode, lines, told.decode()
+
+    def is_brought(self, *words):
+        status, lines, told = self.bring(*words)
+        want("status and lines on standard error", (status, told), (0, ""))
+        want("what is left", sorted(os.listdir(self.room.folder)), ["old", "store"])
+        return lines
+
+    def count(self):
+        return len(self.hg("log", "-r", "all() - secret()", "-T", "x"))
+
+    def report(self):
+        """The changesets with their phases, and the bookmarks."""
+        rows = [line.split() for line in self.said(PROGRAM, "report", "--store", "store").splitlines()]
+        return sorted(it[2:4] for it in rows if it[0] == b"C"), sorted(it[1:] for it in rows if it[0] == b"B")
+
+    def is_all_there(self):
+        """The store has what is neither hidden nor secret, and each changeset was brought once."""
+        text = self.hg("log", "-r", "all() - secret()", "-T", "{node} {ifeq(phase, 'public', 0, 1)}\n")
+        names = "{bookmarks % '{node} {bookmark}\n'}"
+        marks = self.hg("log", "-r", "bookmark() - secret()", "-T", names).splitlines()
+        wanted = [[node, re.sub(rb"[^0-9A-Za-z]", lambda it: b"%%%02X" % ord(it[0]), name)]
+                  for node, name in (it.split(b" ", 1) for it in marks)]
+        want("changesets and bookmarks", self.report(), (sorted(it.split() for it in text.splitlines()), sorted(wanted)))
+        listed = self.said(PROGRAM, "log", "--store", "store", "--list").splitlines()
+        want("how many changesets were brought", sum(int(it.split()[3]) for it in listed), len(text.splitlines()))
+
+
+def pieces(before, count, size):
+    """The lines of pieces of that size."""
+    ends = [*range(before + size, count, size), count]
+    return "".join(f"{end} of {count} changesets\n" for end in ends).encode()
+
+
+def with_hg(body):
+    return case(body) if shutil.which("hg") else body
+
+
+@with_hg
+def a_repository(room):
+    """460 changesets with branches, merges and bookmarks, public, draft and secret ones, in pieces of 50; nothing more
+    by a run after that; and more later."""
+    old = Repository(room, "+150:a @one +50 <a @two +60 /a +99 @three *a +98")
+    old.hg("phase", "-f", "-p", "200")
+    old.hg("phase", "-f", "-s", "440")
+    for number, name in ((5, "a b"), (300, "b%é\"x"), (7, "-B"), (5, "another"), (445, "secret")):
+        old.hg("bookmark", "-r", str(number), "--", name)
+    count = old.count()
+    want("changesets to bring", 400 < count < 450, True)
+    want("lines", old.is_brought("50"), pieces(0, count, 50))
+    old.is_all_there()
+    before = read(room.path("store/pushes"))
+    want("lines of a run after it", old.is_brought("50"), b"")
+    want("the store after it", read(room.path("store/pushes")), before)
+    old.hg("phase", "-d", "440:")
+    old.hg("bookmark", "-f", "-r", "6", "a b")
+    want("lines later", old.is_brought(), pieces(count, old.count(), 1000))
+    old.is_all_there()
+    want("the records", old.said(PROGRAM, "report", "--store", "store").count(b"J "), 12)
+
+
+@with_hg
+def a_repository_that_publishes(room):
+    """All of it is public in a store that publishes; a run that goes on does not say so again."""
+    old = Repository(room, "+40")
+    old.hg("phase", "-f", "-s", "30")
+    want("status", old.bring("20", PUBLISHING="yes")[:2], (0, pieces(0, 30, 20)))
+    old.hg("phase", "-d", "30:")
+    want("lines", old.is_brought(), pieces(30, 40, 1000))
+    want("phases", {phase for _, phase in old.report()[0]}, {b"0"})
+
+
+@with_hg
+def a_repository_whose_run_is_stopped(room):
+    """Its run is ended at any moment: all its processes, or the script alone, whose children go on for a while. Each
+    further one goes on behind what is kept, none brings a changeset again, and in the end all is there."""
+    old, dice, seen, stops = Repository(room, "+40:a @one +20 <a @two +30 /a +9"), random.Random(), [0], 0
+    old.hg("phase", "-f", "-p", "50")
+    old.hg("bookmark", "-r", "5", "mark")
+    start = time.time()
+    count = old.count()
+    one = time.time() - start
+    for turn in range(60):
+        with old.script("2") as run:
+            try:
+                # so many of Mercurial's commands, more each time
+                lines, told = run.communicate(timeout=one * (3 + (turn + 4) * 1.5 * dice.random()))
+            except subprocess.TimeoutExpired:
+                stops += 1
+                dice.choice((os.kill, os.killpg))(run.pid, dice.choice((signal.SIGKILL, signal.SIGTERM, signal.SIGINT)))
+                lines, told = run.communicate(timeout=120)
+        ends = [int(it.split()[0]) for it in lines.splitlines() if it.endswith(b" changesets")]
+        want("lines go up", ends == sorted({*ends} - {*seen}), True)
+        seen += ends
+        if os.path.exists(room.path("store/pushes")):
+            want("what is told is kept", len(old.report()[0]) >= seen[-1], True)
+        if run.returncode == 0:
+            break
+    want(f"it comes to its end: {told}", (run.returncode, seen[-1]), (0, count))
+    want("it was stopped on the way", stops > 1, True)
+    old.is_all_there()
+    for name in os.listdir(room.folder):
+        want(f"what is left: {name}", name in ("old", "store") or name.startswith("tmp."), True)
+
+
+@with_hg
+def a_repository_that_is_refused(room):
+    """A piece that is torn is named by its reason, and what stands before it is kept. A store that is held, one of
+    version 1, and one that is damaged are not changed. Each run after that goes on."""
+    old = Repository(room, "+40")
+    tearing = room.path("tearing")
+    with open(tearing, "w", encoding="ascii") as file:
+        file.write(f'#!/bin/sh\n[ "$1" != import ] || truncate -c -s -1 store.pieces/piece.01\nexec "{PROGRAM}" "$@"\n')
+    os.chmod(tearing, 0o755)
+    node = old.hg("log", "-r", "20", "-T", "{node|short}").decode()
+    again = f"before {node}; run it again to go on from there\n"
+    want("a torn piece", old.bring("10", HG_PUSHD=tearing),
+         (1, b"10 of 40 changesets\n20 of 40 changesets\n",
+          "hg_pushd: store.pieces/piece.01: push aborted\nimport.sh: the next piece is not done: stream fault 10\n"
+          f"import.sh: stopped behind 20 of 40 changesets, {again}"))
+    os.remove(tearing)
+    data = read(room.path("store/pushes"))
+    with open(room.path("store/pushes"), "rb") as held:
+        fcntl.flock(held, fcntl.LOCK_EX)
+        want("a store that is held", old.bring("10"),
+             (3, b"", "hg_pushd: store/pushes: another process holds the store\n"
+              f"import.sh: stopped behind 20 of 40 changesets, {again}"))
+    bundles = [it for _, _, it in records_in(data)]
+    for made, line in ((store_of(bundles, version=1)[0], "a store of version 1"), (data[:-2] + b"xx", "damage")):
+        room.store(made)
+        status, came, told = old.bring("10")
+        want(f"{line}: {told}", (status, came, line in told), (3, b"", True))
+        want("the store", read(room.path("store/pushes")), made)
+    room.store(data)
+    want("lines", old.is_brought("10"), pieces(20, 40, 10))
+    old.is_all_there()
+
+
+@with_hg
+def words_of_the_script(room):
+    """Another number of words, and a number that is none: its use, and nothing is made. No repository: its status."""
+    for words in ((), ("old",), ("old", "store", "0"), ("old", "store", "x"), ("old", "store", "-1"), ("a", "b", "1", "c")):
+        done = subprocess.run(["bash", SCRIPT, *words], cwd=room.folder, capture_output=True, check=False, timeout=60)
+        want(f"its use by {words}", (done.returncode, done.stdout, b"import.sh REPOSITORY URL" in done.stderr), (2, b"", True))
+    done = subprocess.run(["bash", SCRIPT, "old", "store"], cwd=room.folder, capture_output=True, check=False, timeout=60)
+    want("no repository", (done.returncode, done.stdout, b"old" in done.stderr), (255, b"", True))
+    want("files", os.listdir(room.folder), [])
 
 
 def main():

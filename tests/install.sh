@@ -24,7 +24,7 @@ DESTDIR=$room/to PREFIX=/opt/push python3 "$top/tools/package.py" install "$prog
 at=$room/to/opt/push
 for file in bin/hg_pushd bin/deqtorap share/man/man1/hg_pushd.1 share/bash-completion/completions/hg_pushd \
     share/zsh/site-functions/_hg_pushd share/fish/vendor_completions.d/hg_pushd.fish \
-    share/deqtorap/{mirror,hook,canonical,incoming}.py lib/sysusers.d/deqtorap.conf \
+    share/deqtorap/{{mirror,hook,canonical,incoming}.py,import.sh} lib/sysusers.d/deqtorap.conf \
     lib/systemd/system/deqtorap-{host,hook,mirror,host@,hook@,mirror@,hgweb,hgweb-all}.service \
     share/doc/deqtorap/docs/team.md share/doc/deqtorap/examples/{deqtorap-one.conf,rules.py} \
     share/doc/deqtorap/LICENSE-MIT share/doc/deqtorap/mirror/COPYING

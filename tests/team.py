@@ -328,6 +328,28 @@ class Trial:
         self.root_types(f"sed -i 's/publish = no/publish = yes/' {settings}", "rm /etc/deqtorap/twin.conf",
                         "mv /tmp/hgrc /var/lib/deqtorap-mirror/number1/.hg/",
                         "systemctl start deqtorap-hook@second deqtorap-host@number0")
+
+    def before_an_old_repository(self):
+        """Two of them, with branches, a merge and a bookmark, public and draft changesets."""
+        made = ("hg init {0} && hg -R {0} debugbuilddag -n '+30:a @one +20 <a @two +10 /a' && hg -R {0} phase -p 20 && "
+                "hg -R {0} bookmark -r 5 'a mark'")
+        for by, place in ((self.root, "/srv/third"), (self.user, "~/fourth")):
+            status, told = by.type(made.format(place))
+            self.see(f"{place} is made", status == 0, told)
+
+    def after_an_old_repository(self):
+        """A clone of each has what is there; then the site of before again."""
+        rows = "-T '{node} {phase} {bookmarks}\\n'"
+        for name, place, by in (("third", "/srv/third", self.root), ("fourth", "~/fourth", self.user)):
+            _, wanted = by.type(f"hg -R {place} log {rows}")
+            clone = f"rm -rf ~/back && hg clone -q -U https://hg.example.org/{name} ~/back && hg -R ~/back log {rows}"
+            for _ in range(20):
+                _, told = self.user.type(clone)
+                if told == wanted:
+                    break
+                time.sleep(1)
+            self.see(f"a clone of {name} has it all", told == wanted and wanted.count("\n") == 61, f"{told}\n{wanted}")
+        self.answers("all are mirrored", "for _ in 1 2 3 4 5; do deqtorap doctor && break; sleep 1; done", "nothing found")
         self.root_types("rm /etc/nginx/sites-enabled/deqtorap-many.conf",
                         "ln -s ../sites-available/deqtorap-one.conf /etc/nginx/sites-enabled/",
                         "systemctl reload nginx")

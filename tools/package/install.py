@@ -61,6 +61,7 @@ def install(program, prefix, destination="", zsh="site-functions"):
             put(0o644, f"{made}/{name}", f"{to}/{place}/{name.removesuffix('.bash')}")
     for module in ("mirror", "hook", "canonical", "incoming"):
         put(0o644, f"{ROOT}/mirror/{module}.py", f"{to}/share/deqtorap/{module}.py")
+    put(0o755, f"{ROOT}/examples/import.sh", f"{to}/share/deqtorap/import.sh")
 
     def moved(path, place):
         """A file that names places below /usr/local, with the places of this installation."""

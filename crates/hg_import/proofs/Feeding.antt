@@ -1,5 +1,5 @@
 -- A reader of bundles that was fed some bytes at once.
-use Rattle.std.proofs.Common.{◌≡◌, ◌≢◌, ◌≤◌, ◌++◌, ℕ, List, [], length, take, drop, ap, ◌∙◌, subst, sym, refl, arith}
+use Rattle.std.proofs.Common.{◌≡◌, ◌≢◌, ℕ, List, [], length, take, drop, subst, sym, refl, arith}
 use Rattle.std.proofs.Common.{take-append-drop, length-drop, ◌∷◌}
 use Rattle.hg_types.specs.declared.limits.Limits.{Limits}
 use Rattle.hg_types.specs.declared.part.Part.{Part}

@@ -1,3 +1,4 @@
+pub mod Fronts
 pub mod Pushing
 pub mod Lines
 pub mod Imports

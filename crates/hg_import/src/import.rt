@@ -1,32 +1,34 @@
 //! Bundles of files that become the next records of a store, one after the other.
 
-ghost use Rattle.std.specs.Prelude.{◌≡◌, ◌+◌, ◌<◌, [], List, IfErr, IfOk, OnErr, OnOk};
+ghost use Rattle.std.specs.Prelude.{◌≡◌, ◌+◌, ◌<◌, [], List, ℕ, IfErr, IfOk, OnErr, OnOk};
 ghost use Rattle.std.specs.Prelude.{length, map, take, vec_capacity, vec_len};
 ghost use Rattle.hg_types.specs.Limits.{IsAllowed};
 ghost use Rattle.hg_store.specs.Entries.{Entry};
 ghost use Rattle.hg_store.specs.Log.{IsSettled};
 ghost use Rattle.hg_store.specs.Records.{IsSized};
 ghost use Rattle.hg_store.specs.declared.head.Head.{Head};
-ghost use Rattle.hg_import.specs.Imports.{Adds, Imports, ImportsFiles, MayAdd};
-ghost use Rattle.hg_import.specs.Imports.{IsNotDone, IsUnwritten, IsWritten, PushesFile};
-ghost use Rattle.hg_import.specs.Imports.{GivesFront, IsToldSo, IsUnread, Stops};
-ghost use Rattle.hg_import.specs.Statuses.{reason_status, stop_status};
+ghost use Rattle.hg_import.specs.Imports.{Adds, GivesFront, GivesUp, Imports, ImportsFiles, IsNotDone};
+ghost use Rattle.hg_import.specs.Imports.{IsSentSo, IsToldSo, IsUnread, MayAdd, PushesFile, Stops};
+ghost use Rattle.hg_import.specs.Statuses.{reason_status, stop_status, store_status, unsent_status};
 
 use crate::line::{place_line, reason_line};
 use crate::pushing::run_bundle;
 use crate::reading::{InputFault, read_front};
-use hg_connection::{Sending, Writer, send};
+use hg_connection::{Reader, Sending, Writer, send};
 use hg_push::Reason;
 use hg_repo::{Refusal, Repo};
 use hg_store::{Device, DeviceError, Log, Sealed, Stamp};
 use hg_types::{CutReason, Limits, Seq};
 use std::alloc::Allocator;
-use std::io::Read;
 
 /// What says which time it is.
 pub trait Times {
+    /// Whether it may say that time.
+    ghost says: { Self → ℕ → Type 0 };
+
     /// How many milliseconds have gone since the beginning of 1970.
-    fn millis(&self) -> u64;
+    fn millis(&self) -> u64
+        ensures { says self.now result };
 }
 
 /// Why no more files are imported.
@@ -34,12 +36,12 @@ pub trait Times {
 pub enum ImportStop<A: Allocator> {
     /// The push of the next file is not done, for that reason, which was written.
     NotDone(Reason<Refusal<A>>),
-    /// The store failed: it may have the push of the next file or not.
-    StoreFailed,
+    /// The store failed so: it may have the push of the next file or not.
+    StoreFailed(DeviceError),
     /// The push of the next file is done and kept, and its line was not taken, or not whole.
-    PlaceUnsent,
+    PlaceUnsent(Sending),
     /// The push of the next file is not done, for that reason, and its line was not taken, or not whole.
-    ReasonUnsent(Reason<Refusal<A>>),
+    ReasonUnsent(Reason<Refusal<A>>, Sending),
     /// Memory was refused for the line of the next file, or it has no place.
     NoMemory,
 }
@@ -52,8 +54,9 @@ impl<A: Allocator> ImportStop<A> {
     {
         match self {
             ImportStop::NotDone(reason) => reason_status(reason),
-            ImportStop::StoreFailed => 3,
-            ImportStop::PlaceUnsent | ImportStop::ReasonUnsent(_) => 3,
+            ImportStop::StoreFailed(error) => store_status(*error),
+            ImportStop::PlaceUnsent(sending) => unsent_status(*sending),
+            ImportStop::ReasonUnsent(_, sending) => unsent_status(*sending),
             ImportStop::NoMemory => 4,
         }
     }
@@ -74,11 +77,31 @@ fn reason_status<A: Allocator>(reason: &Reason<Refusal<A>>) -> u8
     }
 }
 
+/// The status where a store failed so.
+fn store_status(error: DeviceError) -> u8
+    ensures { result ≡ store_status error }
+{
+    match error {
+        DeviceError::Memory => 4,
+        _ => 3,
+    }
+}
+
+/// The status where a line was not taken.
+fn unsent_status(sending: Sending) -> u8
+    ensures { result ≡ unsent_status sending }
+{
+    match sending {
+        Sending::NoMemory => 4,
+        _ => 3,
+    }
+}
+
 /// Runs the bundles of files as pushes, one after the other, on the repository of a store that has so many records,
 /// and adds the record of each that is done. A line is written for each: the place of its record, once it is on the
 /// device, or the reason that it is not done. Gives how many records the store had before the file that it ended at,
 /// and why it ended before the last one, if it did.
-pub fn import_files<A: Allocator + Copy, D: Device, I: Read, W: Writer, T: Times>(
+pub fn import_files<A: Allocator + Copy, D: Device, I: Reader, W: Writer, T: Times>(
     alloc: A,
     times: &T,
     repo: &mut Repo<A>,
@@ -92,8 +115,9 @@ pub fn import_files<A: Allocator + Copy, D: Device, I: Read, W: Writer, T: Times
         × IsSettled D.seen D.may_leave head records log.old × (stored ≡ length records) }
     ensures { (head : Head) (records : List Entry) →
         IsSettled D.seen D.may_leave head records log.old → stored ≡ length records →
-        ImportsFiles D.seen D.may_leave D.moment D.left_since repo.old.settings.limits head records
-        (map (λ f. I.remaining f) files.old) (map (λ f. I.remaining f) files.new)
+        ImportsFiles D.seen D.may_leave D.moment D.left_since D.faults (T.says times.now)
+        repo.old.settings.limits head records
+        (map (λ f. I.told f) files.old) (map (λ f. I.told f) files.new)
         (record { repo = repo.old; log = log.old; output = W.told writer.old })
         (record { repo = repo.new; log = log.new; output = W.told writer.new })
         result.0 result.1 }
@@ -109,7 +133,7 @@ pub fn import_files<A: Allocator + Copy, D: Device, I: Read, W: Writer, T: Times
 }
 
 /// Runs the bundle of a file as a push, adds its record, and writes its line. Gives the next place.
-fn import_file<A: Allocator + Copy, D: Device, I: Read, W: Writer, T: Times>(
+fn import_file<A: Allocator + Copy, D: Device, I: Reader, W: Writer, T: Times>(
     alloc: A,
     times: &T,
     repo: &mut Repo<A>,
@@ -125,15 +149,17 @@ fn import_file<A: Allocator + Copy, D: Device, I: Read, W: Writer, T: Times>(
     ensures done { (head : Head) (records : List Entry) →
         IsSettled D.seen D.may_leave head records log.old → place ≡ length records →
         IfOk result (λ _. (entry : Entry)
-        × Imports D.seen D.may_leave D.moment D.left_since repo.old.settings.limits head records
-        (I.remaining file.old) (I.remaining file.new) entry
+        × Imports D.seen D.may_leave D.moment D.left_since D.faults (T.says times.now)
+        repo.old.settings.limits head records
+        (I.told file.old) (I.told file.new) entry
         (record { repo = repo.old; log = log.old; output = W.told writer.old })
         (record { repo = repo.new; log = log.new; output = W.told writer.new })) }
     ensures stops { (head : Head) (records : List Entry) →
         IsSettled D.seen D.may_leave head records log.old → place ≡ length records →
         IfErr result (λ stop.
-        Stops D.seen D.may_leave D.moment D.left_since stop repo.old.settings.limits head records
-        (I.remaining file.old) (I.remaining file.new)
+        Stops D.seen D.may_leave D.moment D.left_since D.faults (T.says times.now) stop
+        repo.old.settings.limits head records
+        (I.told file.old) (I.told file.new)
         (record { repo = repo.old; log = log.old; output = W.told writer.old })
         (record { repo = repo.new; log = log.new; output = W.told writer.new })) }
     ensures settings { repo.new.settings ≡ repo.old.settings }
@@ -150,10 +176,10 @@ fn import_file<A: Allocator + Copy, D: Device, I: Read, W: Writer, T: Times>(
     match push_file(alloc, times, repo, file) {
         Ok(entry) => match add_record(log, room, entry) {
             Ok(()) => match tell(writer, line.as_bytes()) {
-                Ok(()) => Ok(next),
-                Err(()) => Err(ImportStop::PlaceUnsent),
+                Sending::Whole => Ok(next),
+                sending => Err(ImportStop::PlaceUnsent(sending)),
             },
-            Err(_) => Err(ImportStop::StoreFailed),
+            Err(error) => Err(ImportStop::StoreFailed(error)),
         },
         Err(reason) => Err(not_done(alloc, writer, reason)),
     }
@@ -175,6 +201,7 @@ fn add_record<A: Allocator, D: Device>(
     ensures any_moment { (head : Head) (records : List Entry) →
         IsSettled D.seen D.may_leave head records log.old →
         MayAdd D.seen D.may_leave D.moment D.left_since head records entry log.old log.new }
+    ensures failed { IfErr result (λ error. GivesUp D.faults error entry log.old log.new) }
 {
     let mut batch = room;
     batch.push_reserved(entry);
@@ -191,39 +218,35 @@ fn not_done<A: Allocator + Copy, W: Writer>(
 {
     match reason_line(alloc, &reason) {
         Ok(line) => match tell(writer, line.as_bytes()) {
-            Ok(()) => ImportStop::NotDone(reason),
-            Err(()) => ImportStop::ReasonUnsent(reason),
+            Sending::Whole => ImportStop::NotDone(reason),
+            sending => ImportStop::ReasonUnsent(reason, sending),
         },
         Err(_) => ImportStop::NoMemory,
     }
 }
 
-/// Writes a line and flushes.
-fn tell<W: Writer>(writer: &mut W, line: &[u8]) -> Result<(), ()>
-    ensures ok { OnOk result (IsWritten line.now (W.told writer.old) (W.told writer.new)) }
-    ensures err { OnErr result (IsUnwritten line.now (W.told writer.old) (W.told writer.new)) }
+/// Writes a line and flushes. Says what became of it.
+fn tell<W: Writer>(writer: &mut W, line: &[u8]) -> Sending
+    ensures { IsSentSo result line.now (W.told writer.old) (W.told writer.new) }
 {
     let (sending, _count) = send(writer, line);
-    match sending {
-        Sending::Whole => Ok(()),
-        _ => Err(()),
-    }
+    sending
 }
 
 /// Runs the bundle of a file as a push, and gives its record, with the time at which it was read. Of an `Err` the
 /// repository is as it was.
-fn push_file<A: Allocator + Copy, I: Read, T: Times>(
+fn push_file<A: Allocator + Copy, I: Reader, T: Times>(
     alloc: A,
     times: &T,
     repo: &mut Repo<A>,
     file: &mut I,
 ) -> Result<Sealed<A>, Reason<Refusal<A>>>
     requires { IsAllowed repo.old.settings.limits }
-    ensures done { IfOk result (λ entry. PushesFile repo.old.settings.limits repo.old
-        (I.remaining file.old) (I.remaining file.new) entry repo.new) }
+    ensures done { IfOk result (λ entry. PushesFile (T.says times.now) repo.old.settings.limits
+        repo.old (I.told file.old) (I.told file.new) entry repo.new) }
     ensures err { OnErr result (repo.new ≡ repo.old) }
     ensures reason { IfErr result (λ reason. IsNotDone reason repo.old.settings.limits repo.old
-        (I.remaining file.old) (I.remaining file.new)) }
+        (I.told file.old) (I.told file.new)) }
     ensures settings { repo.new.settings ≡ repo.old.settings }
 {
     let limits = repo.settings().limits;
@@ -239,14 +262,14 @@ fn push_file<A: Allocator + Copy, I: Read, T: Times>(
 }
 
 /// The bytes of a file, or its first ones, one more than a bundle may have.
-fn front_of<A: Allocator, I: Read>(
+fn front_of<A: Allocator, I: Reader>(
     alloc: A,
     limits: Limits,
     file: &mut I,
 ) -> Result<Vec<u8, A>, Reason<Refusal<A>>>
     requires { IsAllowed limits }
-    ensures ok { IfOk result (λ bytes. GivesFront limits (I.remaining file.old) (I.remaining file.new) bytes.items) }
-    ensures err { IfErr result (λ reason. IsUnread reason) }
+    ensures ok { IfOk result (λ bytes. GivesFront limits (I.told file.old) (I.told file.new) bytes.items) }
+    ensures err { IfErr result (λ reason. IsUnread reason (I.told file.old) (I.told file.new)) }
 {
     let most = limits.stream as usize;
     match read_front(alloc, file, most + 1) {
@@ -256,9 +279,10 @@ fn front_of<A: Allocator, I: Read>(
     }
 }
 
-/// The record of so many bytes, without a name.
+/// The record of so many bytes, of that time and without a name.
 fn entry_of<A: Allocator>(alloc: A, time: u64, mut bytes: Vec<u8, A>, count: usize) -> Sealed<A>
     ensures bundle { result.bundle ≡ take count bytes.items }
+    ensures timed { result.stamp.time ≡ time }
     ensures unnamed { result.stamp.name ≡ [] }
 {
     bytes.truncate(count);

@@ -16,5 +16,3 @@ mod reading;
 
 pub use import::{ImportStop, Times, import_files};
 pub use named::NamedFile;
-pub use pushing::run_bundle;
-pub use reading::{InputFault, read_front};

@@ -16,6 +16,10 @@ pub const TIME: u64 = 1_700_000_000_123;
 pub struct Noon;
 
 impl Times for Noon {
+    ghost use Rattle.std.specs.Prelude.{◌≡◌};
+
+    ghost says = { λ _ time. time ≡ TIME };
+
     fn millis(&self) -> u64 {
         TIME
     }

@@ -1,10 +1,12 @@
 //! Bundles from files that are brought into a store, and what is printed of it.
 
+ghost use Rattle.hg_recovery.specs.Opening.{IsOpened};
+
 use crate::opened::{not_opened, open_store, store_failed};
 use hg_commands::{Importing, tell};
 use hg_import::{ImportStop, NamedFile, Times, import_files};
 use hg_recovery::Recovered;
-use hg_store::{HostFile, StoreFile};
+use hg_store::{Device, HostFile, StoreFile};
 use std::alloc::Global;
 use std::fs::{File, Files};
 use std::hash::RandomState;
@@ -18,6 +20,8 @@ struct SystemTimes<'a, R: Clock> {
 }
 
 impl<R: Clock> Times for SystemTimes<'_, R> {
+    ghost says = { λ _ _. Unit {0} };
+
     fn millis(&self) -> u64 {
         let Ok(now) = SystemTime::now(self.rt) else {
             return 0;
@@ -70,7 +74,10 @@ fn import_into<R: Files<File = File> + Print + Eprint + AllocGlobal + Clock>(
     rt: &R,
     recovered: Recovered<StoreFile<HostFile>>,
     files: &mut [NamedFile<'_, R>],
-) -> u8 {
+) -> u8
+    requires { IsOpened ⟦<StoreFile<HostFile> as Device>⟧.seen
+        ⟦<StoreFile<HostFile> as Device>⟧.may_leave recovered }
+{
     let Recovered {
         mut repo,
         mut log,
@@ -89,8 +96,17 @@ fn import_into<R: Files<File = File> + Print + Eprint + AllocGlobal + Clock>(
     let is_foreign = log.device.calls().is_foreign();
     match stop {
         None => 0,
-        Some(stop) => stopped(rt, &files[place - stored], &stop, is_foreign),
+        Some(stop) => match place.checked_sub(stored) {
+            Some(at) if at < files.len() => stopped(rt, &files[at], &stop, is_foreign),
+            _ => printed(rt, stop.status()),
+        },
     }
+}
+
+/// A status, which is printed.
+fn printed<R: Eprint>(rt: &R, status: u8) -> u8 {
+    tell(rt, status);
+    status
 }
 
 /// The status where not all files were brought in, which is printed. Where the store failed, another may have
@@ -104,7 +120,7 @@ fn stopped<R: Files<File = File> + Eprint>(
     let status = stop.status();
     let name = file.name();
     match (stop, file.failure()) {
-        (ImportStop::StoreFailed, _) => store_failed(rt, is_foreign),
+        (ImportStop::StoreFailed(_), _) if status == 3 => store_failed(rt, is_foreign),
         (_, Some(kind)) => {
             let error = io::Error::from(kind);
             let _ = eprintln!(rt; "hg_pushd: {name}: {error}");

@@ -1,6 +1,6 @@
 use Rattle.std.proofs.Common.{List, [], ◌∷◌, ◌++◌, ap, ◌∙◌}
 use Rattle.hg_store.specs.Entries.{Entry}
-use Rattle.hg_import.proofs.Adding.{adds, may_add}
+use Rattle.hg_import.proofs.Adding.{adds, gives_up, may_add}
 use Rattle.hg_import.proofs.import.add_record.Goals as goal
 
 pub returns-clause-ok : goal.returns-clause-ok
@@ -19,3 +19,10 @@ returns-clause-any_moment g c = λ head records settled.
     (c.as_slice.ensures.value ∙ c.push_reserved.ensures.items
     ∙ ap (λ (l : List Entry). l ++ c.args.entry ∷ []) c.requires.empty)
     (c.append.ensures.any_moment head records settled)
+
+pub returns-clause-failed : goal.returns-clause-failed
+returns-clause-failed g c =
+    gives_up g.D.Device.faults c.as_slice.result.now c.args.entry c.args.log.now c.append.new.self
+    (c.as_slice.ensures.value ∙ c.push_reserved.ensures.items
+    ∙ ap (λ (l : List Entry). l ++ c.args.entry ∷ []) c.requires.empty)
+    c.append.result c.append.ensures.failed c.append.ensures.full

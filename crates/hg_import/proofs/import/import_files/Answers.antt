@@ -6,11 +6,13 @@ use Rattle.hg_import.proofs.import.import_files.Goals as goal
 
 pub loop-file-init : goal.loop-file-init
 loop-file-init g c = none_brought g.D.Device.seen g.D.Device.may_leave g.D.Device.moment g.D.Device.left_since
+    g.D.Device.faults (g.T.Times.says c.args.times.now)
     c.args.repo.now.settings.limits _ _ _
 
 pub returns-in-Err : goal.returns-in-Err
 returns-in-Err g c = file_stopped g.D.Device.seen g.D.Device.may_leave g.D.Device.moment g.D.Device.left_since
-    c.args.repo.now.settings.limits c.loop-file.repo.settings.limits (λ f. g.I.Read.remaining f) _ c.loop-file.files
+    g.D.Device.faults (g.T.Times.says c.args.times.now)
+    c.args.repo.now.settings.limits c.loop-file.repo.settings.limits (λ f. g.I.Reader.told f) _ c.loop-file.files
     c.loop-file.file-index _ _ (get_or c.loop-file.files c.loop-file.file-index c.file-item.result)
     c.import_file.new.file _ _ (omega (arith, c.loop-file-test.true, c.loop-file.auto.files))
     (ap (λ r. get_or c.loop-file.files c.loop-file.file-index r) c.file-item.is)
@@ -24,7 +26,8 @@ returns-in-Err g c = file_stopped g.D.Device.seen g.D.Device.may_leave g.D.Devic
 
 pub loop-file-preserved : goal.loop-file-preserved
 loop-file-preserved g c = file_brought g.D.Device.seen g.D.Device.may_leave g.D.Device.moment g.D.Device.left_since
-    c.args.repo.now.settings.limits c.loop-file.repo.settings.limits (λ f. g.I.Read.remaining f) _ c.loop-file.files
+    g.D.Device.faults (g.T.Times.says c.args.times.now)
+    c.args.repo.now.settings.limits c.loop-file.repo.settings.limits (λ f. g.I.Reader.told f) _ c.loop-file.files
     c.loop-file.file-index _ _ (get_or c.loop-file.files c.loop-file.file-index c.file-item.result)
     c.import_file.new.file _ _ (omega (arith, c.loop-file-test.true, c.loop-file.auto.files))
     (ap (λ r. get_or c.loop-file.files c.loop-file.file-index r) c.file-item.is)
@@ -38,10 +41,11 @@ loop-file-preserved g c = file_brought g.D.Device.seen g.D.Device.may_leave g.D.
 
 pub returns : goal.returns
 returns g c = all_brought g.D.Device.seen g.D.Device.may_leave g.D.Device.moment g.D.Device.left_since
+    g.D.Device.faults (g.T.Times.says c.args.times.now)
     c.args.repo.now.settings.limits _ _ c.loop-file.file-index _ _ _ _
     (omega (
       arith,
       c.loop-file-test.false,
       c.loop-file.auto.files,
-      length-map c.loop-file.files (λ f. g.I.Read.remaining f),
+      length-map c.loop-file.files (λ f. g.I.Reader.told f),
     )) c.loop-file.invariant

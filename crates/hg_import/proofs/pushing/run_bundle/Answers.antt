@@ -1,4 +1,4 @@
-use Rattle.std.proofs.Common.{ap, refl}
+use Rattle.std.proofs.Common.{ap}
 use Rattle.hg_types.specs.declared.limits.Settings.{Settings}
 use Rattle.hg_import.proofs.Feeding.{front_begins}
 use Rattle.hg_import.proofs.pushing.run_bundle.Goals as goal
