@@ -28,6 +28,8 @@ CLIENTS = 3
 # what runs the commands of clients: CLIENT of the environment may be chg, which takes a quarter of the time
 CLIENT = os.environ.get("CLIENT", "hg")
 LONGEST = 900
+# how long one command may take on a busy machine
+PATIENCE = 300
 # In a trial of so many pushes and more each sort of change has to come, and pushes of one client alone show how
 # late the mirror is. In a shorter one there are fewer of these, and it may be later, as on a busy machine.
 LONG = 50
@@ -69,10 +71,13 @@ class Place:
                             "CHGTIMEOUT": "120"}
 
     def run(self, *words):
-        """The status of a command, and what it said."""
+        """The status of a command, and what it said; one that takes too long is ended, with status 124."""
         words = [CLIENT if words[0] == "hg" else words[0], *words[1:]]
-        done = subprocess.run(words, cwd=self.folder, env=self.environment, stdin=subprocess.DEVNULL,
-                              stdout=subprocess.PIPE, stderr=subprocess.STDOUT, timeout=120, check=False)
+        try:
+            done = subprocess.run(words, cwd=self.folder, env=self.environment, stdin=subprocess.DEVNULL,
+                                  stdout=subprocess.PIPE, stderr=subprocess.STDOUT, timeout=PATIENCE, check=False)
+        except subprocess.TimeoutExpired:
+            return 124, f"{words[0]}: not within {PATIENCE} seconds"
         return done.returncode, done.stdout.decode("utf-8", "replace")
 
     def hg(self, *words):

@@ -1,11 +1,12 @@
 #!/usr/bin/env python3
 """A store on a Ceph cluster of one machine, and the end of each of its parts.
 
-    python3 tests/cluster.py PROGRAM [--short] [--drills NAME,..] [--count N] [--alone] [--keep]
+    python3 tests/cluster.py PROGRAM [--short] [--drills NAME,..] [--count N] [--results FILE] [--alone] [--keep]
+    python3 tests/cluster.py --table FILE..
 
-It makes a Ceph cluster in network namespaces: three nodes, each with a monitor and an OSD on a file, and two MDSs.
-Three machines have its CephFS, by ceph-fuse: two for `host`, of which one holds the store, and one for the mirror and
-hgweb. nginx is before the two, by the lines of docs/cluster.md. While clients push and pull, a part ends:
+It makes the cluster of tests/ceph_cluster.py: three nodes, each with a monitor and an OSD on a file, and two MDSs. Of
+three machines with its CephFS two are for `host`, of which one holds the store, and one for the mirror and hgweb. nginx
+is before the two, by the lines of docs/cluster.md. While clients push and pull, a part ends:
 
     death    the holder's process, by kill -9          osd, mds, mon   one of that sort, by kill -9
     machine  the holder with its mount, for good       two             two at once
@@ -14,34 +15,40 @@ hgweb. nginx is before the two, by the lines of docs/cluster.md. While clients p
 
 Where the holder is the one, a second `host` on the other machine is tried each second until it gets the lock. Where
 the program has `--shared` and `--standby` both hosts have them, and the second one waits by itself; --alone leaves them
-off. After each drill every push that was answered as done is in the store, once, and after all that were answered
-before it was sent; the deposed holder answered no push, and ended with status 3; the mirror has every push, and `hg
-verify` finds nothing. It prints how long no push was answered. Reads that miss a push that was answered before they
-were sent are counted, and are faults with `--shared`.
+off.
+
+The clients are two with the command hg, who push to nginx and pull from hgweb, and some who ask by hand, nginx and each
+machine: they set bookmarks of their own, set three that all of them want, each from what it had seen of it, and read
+one, all, and the report. After each drill
+
+- every push that was answered is in the store, once, and with the answer that it has there;
+- all that was told stands in one order, that of the store (tests/history.py): pushes, what was read, and what was
+  pulled;
+- the deposed holder answered nothing that was asked after the other one served, and ended with status 3;
+- the mirror and a fresh clone have what the store has, and `hg verify` finds nothing in either.
+
+Without `--shared` a deposed holder may answer reads out of its memory; these are counted. It prints how long no push
+was answered, and for how long that may be where the holder is the one that ends (LIMITS).
 
 --short has the three drills of SHORT, in less than five minutes. Without it there are as many of each as DRILLS says,
-or N of each. --keep leaves the logs. It needs root, Debian's packages ceph-mon, ceph-osd, ceph-mds and ceph-fuse, hg
-and nginx. Where one is not there, or where namespaces or FUSE are refused, it says so in a line; the status is 0.
-All runs in namespaces of its own and goes away with them. It ends with a summary and a status.
+or N of each. What they found is added to the FILE of --results, and what stands there already is not played again;
+--table prints it. --keep leaves the logs. It needs root, Debian's packages ceph-mon, ceph-osd, ceph-mds and ceph-fuse,
+hg and nginx. Where one is not there, or where namespaces or FUSE are refused, it says so in a line; the status is 0.
+All runs in namespaces of its own and goes away with them. It ends with a table and a status.
 """
 import argparse
 import contextlib
-import ctypes
-import hashlib
-import http.client
+import glob
 import json
 import os
 import re
-import shutil
-import signal
-import struct
-import subprocess
 import sys
-import tempfile
-import threading
 import time
-import urllib.parse
-import uuid
+
+from ceph_cluster import HUB, MACHINES, NODES, PATIENCE, SESSION, TOOLS, Network, Process, Refused, Wrong
+from ceph_cluster import alone, missing, ready, run, until
+from cluster_clients import CLIENT, LATE, SOON, Clients, Line
+from history import Damaged, Moments, disorder
 
 TOP = os.path.dirname(os.path.dirname(os.path.abspath(__file__)))
 # Whether both hosts run with --shared --standby: then the successor waits by itself, and reads that are late are
@@ -51,55 +58,12 @@ SHARED = False
 # how many of each drill there are, in this order
 DRILLS = {"death": 20, "machine": 5, "cut": 20, "freeze": 20, "osd": 10, "mds": 10, "mon": 10, "two": 5, "power": 5}
 SHORT = ("death", "cut", "mds")
-TOOLS = ("ceph", "ceph-mon", "ceph-osd", "ceph-mds", "ceph-fuse", "monmaptool", "hg", "nginx", "ip", "unshare",
-         "nsenter")
-ALONE = ["unshare", "--mount", "--net", "--pid", "--ipc", "--fork", "--kill-child", "--mount-proc"]
-
-HUB = "10.77.0.1"
-NODES = {"a": "10.77.0.11", "b": "10.77.0.12", "c": "10.77.0.13"}
-MACHINES = {"one": "10.77.0.21", "two": "10.77.0.22", "three": "10.77.0.23"}
-# the shortest that Ceph takes
-SESSION = 30
-# how long something may take that has no bound of its own, on a busy machine
-PATIENCE = 180
+# within how many seconds pushes are to go on: the lock is free at once, or when the session is over
+LIMITS = {"death": 3, "machine": SESSION + 3, "cut": SESSION + 3, "freeze": SESSION + 3}
 # how long a part stays away, and how long there are clients before and after
 AWAY, BEFORE, AFTER = 25, 3, 3
-HEAD = 54
-SETTINGS = f"""\
-[global]
-fsid = {{fsid}}
-mon_host = {",".join(NODES.values())}
-mon_initial_members = {",".join(NODES)}
-auth_cluster_required = none
-auth_service_required = none
-auth_client_required = none
-public_network = 10.77.0.0/24
-run_dir = {{room}}/run
-admin_socket = {{room}}/run/$name.$pid.asok
-pid_file = {{room}}/run/$name.pid
-log_file = {{room}}/log/$name.log
-mon_cluster_log_file = {{room}}/log/cluster.log
-crash_dir = {{room}}/run
-mon_data = {{room}}/mon.$id
-osd_data = {{room}}/osd.$id
-mds_data = {{room}}/mds.$id
-osd_pool_default_size = 3
-osd_pool_default_min_size = 2
-osd_pool_default_pg_num = 8
-osd_pool_default_pg_autoscale_mode = off
-osd_crush_chooseleaf_type = 0
-osd_objectstore = bluestore
-bluestore_block_size = 4294967296
-bluestore_block_create = true
-osd_memory_target = 939524096
-osd_heartbeat_interval = 3
-osd_heartbeat_grace = 10
-mon_osd_min_down_reporters = 1
-mon_osd_down_out_interval = 6000
-client_reconnect_stale = false
-fuse_disable_pagecache = true
-fuse_multithreaded = false
-"""
+# how many changesets there are for bookmarks
+TARGETS = 12
 MERCURIAL = """\
 [ui]
 username = somebody
@@ -123,351 +87,13 @@ http {{
         listen {hub}:8080;
         location / {{
             {handing}
+            {again}
             proxy_pass http://deqtorap_host;
         }}
+        {location}
     }}
 }}
 """
-
-
-class Wrong(Exception):
-    pass
-
-
-class Refused(Exception):
-    """What this machine does not let one do."""
-
-
-def until(what, is_so, seconds=PATIENCE, pause=0.1):
-    """Waits until something is so, and gives what it gave."""
-    end = time.monotonic() + seconds
-    while True:
-        found = is_so()
-        if found:
-            return found
-        if time.monotonic() > end:
-            raise Wrong(f"not within {seconds} seconds: {what}")
-        time.sleep(pause)
-
-
-def run(*words, seconds=60, **more):
-    """What a command writes, which has to go well. One that waits for a file system may stay when it was killed."""
-    process = subprocess.Popen(words, stdin=subprocess.DEVNULL, stdout=subprocess.PIPE, stderr=subprocess.STDOUT,
-                               **more)
-    try:
-        said = process.communicate(timeout=seconds)[0].decode("utf-8", "replace")
-    except subprocess.TimeoutExpired as late:
-        process.kill()
-        raise Wrong(f"{' '.join(words)}: not within {seconds} seconds") from late
-    if process.returncode:
-        raise Wrong(f"{' '.join(words)}: status {process.returncode}: {said[-600:]}")
-    return said
-
-
-class Network:
-    """A bridge, and a namespace for each node and machine, named by their names."""
-
-    @staticmethod
-    def make():
-        for words in ("link set lo up", "link add hub type bridge", f"addr add {HUB}/24 dev hub", "link set hub up"):
-            run("ip", *words.split())
-        for name, address in {**NODES, **MACHINES}.items():
-            run("ip", "netns", "add", name)
-            run("ip", "link", "add", f"to-{name}", "type", "veth", "peer", "name", "net", "netns", name)
-            run("ip", "link", "set", f"to-{name}", "master", "hub", "up")
-            for words in (f"addr add {address}/24 dev net", "link set net up", "link set lo up"):
-                run("ip", "-n", name, *words.split())
-
-    @staticmethod
-    def link(name, is_up):
-        run("ip", "link", "set", f"to-{name}", "up" if is_up else "down")
-
-    @staticmethod
-    def enter(name):
-        """The thread that asks is in that namespace from now on."""
-        with open(f"/run/netns/{name}", "rb") as file:
-            if ctypes.CDLL(None, use_errno=True).setns(file.fileno(), 0x40000000):
-                raise OSError(ctypes.get_errno(), "setns")
-
-
-class Process:
-    """A process that this script started, in the network of a node or a machine."""
-
-    def __init__(self, room, network, name, *words):
-        self.log, self.name = f"{room}/log/{name}.out", name
-        inside = ["nsenter", f"--net=/run/netns/{network}", "--"] if network else []
-        with open(self.log, "ab") as log:
-            self.from_here = log.tell()
-            self.process = subprocess.Popen([*inside, *words], stdin=subprocess.DEVNULL, stdout=log, stderr=log,
-                                            cwd=room)
-
-    def status(self):
-        return self.process.poll()
-
-    def said(self):
-        with open(self.log, "rb") as log:
-            log.seek(self.from_here)
-            return log.read().decode("utf-8", "replace")
-
-    def kill(self):
-        """Ends it. A process that waits for a file system ends with that."""
-        self.process.kill()
-        with contextlib.suppress(subprocess.TimeoutExpired):
-            self.process.wait(10)
-
-    def stop(self):
-        self.process.send_signal(signal.SIGSTOP)
-
-    def go_on(self):
-        self.process.send_signal(signal.SIGCONT)
-
-
-class Cluster:
-    """Monitors, OSDs and MDSs, each a process on a node."""
-
-    def __init__(self, room):
-        self.room, self.settings, self.running = room, f"{room}/ceph.conf", {}
-        nodes = list(NODES)
-        self.on = {**{f"mon.{it}": it for it in nodes}, **{f"osd.{k}": nodes[k] for k in range(3)},
-                   "mds.m0": nodes[0], "mds.m1": nodes[1]}
-
-    def ask(self, *words):
-        return run("ceph", "-c", self.settings, "--connect-timeout", "20", *words)
-
-    def make(self):
-        os.makedirs(f"{self.room}/run")
-        fsid = str(uuid.uuid4())
-        with open(self.settings, "w", encoding="ascii") as file:
-            file.write(SETTINGS.format(fsid=fsid, room=self.room))
-        places = [word for name, ip in NODES.items() for word in ("--addv", name, f"[v2:{ip}:3300,v1:{ip}:6789]")]
-        run("monmaptool", "--create", "--fsid", fsid, *places, f"{self.room}/monmap")
-        for name in NODES:
-            os.makedirs(f"{self.room}/mon.{name}")
-            run("ceph-mon", "-c", self.settings, "--mkfs", "-i", name, "--monmap", f"{self.room}/monmap")
-        self.begin(*(it for it in self.on if it.startswith("mon")))
-        until("a quorum of monitors", lambda: len(self.state().get("quorum_names", ())) == 3)
-        for number in range(3):
-            os.makedirs(f"{self.room}/osd.{number}")
-            own = str(uuid.uuid4())
-            self.ask("osd", "new", own, str(number))
-            run("ceph-osd", "-c", self.settings, "-i", str(number), "--mkfs", "--osd-uuid", own, seconds=PATIENCE)
-        self.begin(*(it for it in self.on if it.startswith("osd")))
-        self.ask("osd", "pool", "create", "metadata")
-        self.ask("osd", "pool", "create", "data")
-        self.ask("fs", "new", "store", "metadata", "data")
-        self.ask("fs", "set", "store", "session_timeout", str(SESSION))
-        for name in ("m0", "m1"):
-            os.makedirs(f"{self.room}/mds.{name}")
-        self.begin("mds.m0", "mds.m1")
-        self.wait()
-
-    def begin(self, *names):
-        for name in names:
-            sort, own = name.split(".")
-            words = (f"ceph-{sort}", "-c", self.settings, "-i", own, "-f")
-            self.running[name] = Process(self.room, self.on[name], name, *words)
-
-    def end(self, *names):
-        for name in names:
-            self.running[name].process.kill()
-        for name in names:
-            self.running[name].kill()
-
-    def state(self):
-        try:
-            return json.loads(self.ask("-s", "-f", "json").strip().splitlines()[-1])
-        except (Wrong, ValueError, IndexError):
-            return {}
-
-    def is_whole(self):
-        """Whether all monitors, all OSDs, an MDS and one that waits are there."""
-        state = self.state()
-        files = state.get("fsmap", {})
-        return (len(state.get("quorum_names", ())) == 3 and state["osdmap"]["num_up_osds"] == 3
-                and [it["status"] for it in files.get("by_rank", ())] == ["up:active"] and files.get("up:standby") == 1)
-
-    def wait(self):
-        until("all parts of the cluster are there", self.is_whole, pause=1)
-        dead = [it.name for it in self.running.values() if it.status() is not None]
-        if dead:
-            raise Wrong(f"ended by themselves: {', '.join(dead)}")
-
-    def active(self):
-        """The MDS that answers."""
-        return "mds." + until("an MDS", lambda: self.state().get("fsmap", {}).get("by_rank"))[0]["name"]
-
-
-class Machine:
-    """A machine with the file system mounted, where `host` may run."""
-
-    def __init__(self, cluster, program, name):
-        self.cluster, self.program, self.name, self.address = cluster, program, name, MACHINES[name]
-        self.at, self.fuse, self.host = f"{cluster.room}/{name}", None, None
-        os.makedirs(self.at)
-
-    def mount(self):
-        words = ("ceph-fuse", "-c", self.cluster.settings, "-n", f"client.{self.name}", "-f", self.at)
-        self.fuse = Process(self.cluster.room, self.name, f"fuse-{self.name}", *words)
-        until(f"{self.name} has the file system", self.is_mounted)
-
-    def is_mounted(self):
-        if self.fuse.status() is not None:
-            raise Wrong(f"ceph-fuse ended: {self.fuse.said()[-600:]}")
-        with open("/proc/self/mounts", encoding="utf-8") as file:
-            return f" {self.at} fuse" in file.read()
-
-    def off(self):
-        """Ends all that runs there, and the mount."""
-        for process in filter(None, (self.host, self.fuse)):
-            process.process.kill()
-        for process in filter(None, (self.host, self.fuse)):
-            process.kill()
-        self.host = self.fuse = None
-        with contextlib.suppress(Wrong):
-            run("umount", "-l", self.at)
-
-    def again(self):
-        """Mounts it again, where it was off or is not to be trusted any more."""
-        self.off()
-        Network.link(self.name, True)
-        self.mount()
-
-    def serve(self, store, *flags):
-        self.host = Process(self.cluster.room, self.name, f"host-{self.name}", self.program, "host", *flags, "--store",
-                            f"{self.at}/{store}", "--listen", "0.0.0.0:8000", "--idle", "60")
-
-    def serves(self):
-        return "listening on" in self.host.said() and self.host.status() is None
-
-
-class Push:
-    """A push: when it was sent, and when and by which machine it was answered as done."""
-
-    def __init__(self, by):
-        self.by, self.began, self.answered = by, time.monotonic(), None
-
-
-class Clients:
-    """All who push and read, in threads, and what they were told."""
-
-    def __init__(self, trial):
-        self.trial, self.lock, self.is_over, self.threads = trial, threading.Lock(), False, []
-        self.pushes, self.latest, self.late, self.reads, self.counts = {}, None, {}, 0, {}
-        self.faults = []
-
-    def start(self, does, *words):
-        def work():
-            try:
-                does(*words)
-            except Exception as fault:  # pylint: disable=broad-except
-                self.faults.append(f"{does.__name__} {words}: {fault!r}")
-        self.threads.append(threading.Thread(target=work, daemon=True))
-        self.threads[-1].start()
-
-    def end(self):
-        self.is_over = True
-        for thread in self.threads:
-            thread.join(PATIENCE)
-
-    def count(self, what):
-        with self.lock:
-            self.counts[what] = self.counts.get(what, 0) + 1
-
-    def sent(self, token, by):
-        with self.lock:
-            self.pushes[token] = Push(by)
-
-    def done(self, tokens):
-        with self.lock:
-            for token in tokens:
-                self.pushes[token].answered = time.monotonic()
-
-    def push_keys(self, name, address, machine, pause):
-        """Sets bookmarks, one after the other, each of a name of its own."""
-        line = Line(address, machine)
-        number = 0
-        while not self.is_over:
-            if machine and machine == self.trial.quiet:
-                time.sleep(pause)
-                continue
-            number += 1
-            token = f"push-{name}-{number}."
-            self.sent(token, machine or "front")
-            words = {"cmd": "pushkey", "namespace": "bookmarks", "key": token, "old": "", "new": self.trial.node}
-            if line.ask("POST", words)[:1] == b"1":
-                self.done([token])
-                with self.lock:
-                    self.latest = token
-            time.sleep(pause)
-
-    def read(self, name, address, machine, pause):
-        """Looks up the bookmark that was answered last."""
-        line = Line(address, machine)
-        while not self.is_over:
-            wanted = self.latest
-            told = line.ask("GET", {"cmd": "lookup", "key": wanted}) if wanted else b""
-            if told[:1] in (b"0", b"1"):
-                self.reads += 1
-                if told[:1] == b"0":
-                    with self.lock:
-                        self.late[name] = self.late.get(name, 0) + 1
-            time.sleep(pause)
-
-    def work(self, name):
-        """Commits, pushes and pulls by the command hg. A push that got no answer may be there or not: the next one
-        finds out."""
-        number, waiting = 0, []
-        with open(f"{self.trial.room}/{name}/.hg/hgrc", "w", encoding="ascii") as file:
-            file.write(f"[paths]\ndefault = http://{MACHINES['three']}:8002/\ndefault:pushurl = http://{HUB}:8080/\n")
-        while not self.is_over:
-            number += 1
-            token = f"push-{name}-{number}."
-            with open(f"{self.trial.room}/{name}/{name}", "a", encoding="ascii") as file:
-                file.write(f"{number} {'x' * 1000 * (number % 7)}\n")
-            self.trial.hg("-R", name, "commit", "-A", "-m", token)
-            self.sent(token, "front")
-            waiting.append(token)
-            if self.tried(name, "push", "-f"):
-                self.done(waiting)
-                waiting = []
-            self.tried(name, "pull")
-            time.sleep(0.5)
-
-    def tried(self, name, *words):
-        """Whether a command of hg was done within the time that one waits."""
-        try:
-            self.trial.hg("-R", name, *words, seconds=20)
-        except Wrong as wrong:
-            self.count(f"hg {words[0]} not done")
-            with self.lock, open(f"{self.trial.room}/log/clients.out", "a", encoding="utf-8") as log:
-                log.write(f"{time.monotonic():.1f} {wrong}\n")
-            return False
-        self.count(f"hg {words[0]}")
-        return True
-
-
-class Line:
-    """A connection that is made anew where it fails."""
-
-    def __init__(self, address, machine):
-        self.address, self.line = address, None
-        if machine:
-            Network.enter(machine)
-
-    def ask(self, method, words):
-        """The body of an answer 200; nothing where there is none."""
-        try:
-            if self.line is None:
-                self.line = http.client.HTTPConnection(self.address, timeout=5)
-            self.line.request(method, f"/?{urllib.parse.urlencode(words)}", b"" if method == "POST" else None,
-                              {"content-type": "application/mercurial-0.1"} if method == "POST" else {})
-            answer = self.line.getresponse()
-            told = answer.read()
-            return told if answer.status == 200 else b""
-        except (OSError, http.client.HTTPException):
-            self.line.close()
-            self.line = None
-            return b""
 
 
 class Trial:
@@ -476,19 +102,20 @@ class Trial:
     def __init__(self, room, cluster, machines, number, name, turn):
         self.room, self.cluster, self.name, self.turn = f"{room}/trial-{number}", cluster, name, turn
         self.third = machines["three"]
-        program = self.third.program
         self.holder, self.other = (machines[it] for it in (("one", "two") if number % 2 else ("two", "one")))
         self.store, self.began, self.over, self.deposed, self.since = f"store-{number}", None, None, None, None
         self.ends_by_itself, self.mirror, self.hgweb, self.lost, self.quiet = False, None, None, [], None
+        self.stale = {}
         os.makedirs(f"{self.room}/log")
         with open(f"{self.room}/hgrc", "w", encoding="utf-8") as file:
-            file.write(MERCURIAL.format(top=TOP, program=program))
+            file.write(MERCURIAL.format(top=TOP, program=self.third.program))
         self.environment = {"PATH": os.environ["PATH"], "HGRCPATH": f"{self.room}/hgrc", "HGPLAIN": "1",
-                            "LC_ALL": "C.UTF-8", "HOME": self.room, "PYTHONDONTWRITEBYTECODE": "1"}
+                            "LC_ALL": "C.UTF-8", "HOME": self.room, "PYTHONDONTWRITEBYTECODE": "1",
+                            "CHGSOCKNAME": f"{self.room}/chg", "CHGTIMEOUT": "120"}
         self.clients = Clients(self)
 
     def hg(self, *words, seconds=PATIENCE):
-        return run("hg", *words, cwd=self.room, env=self.environment, seconds=seconds)
+        return run(CLIENT, *words, cwd=self.room, env=self.environment, seconds=seconds)
 
     # ---- the beginning and the end
 
@@ -506,11 +133,12 @@ class Trial:
             file.write(f"[mirror]\nstore = {self.third.at}/{self.store}\n")
         self.follow()
         self.hg("init", "first")
-        with open(f"{self.room}/first/file", "w", encoding="ascii") as file:
-            file.write("first\n")
-        self.hg("-R", "first", "commit", "-A", "-m", "first")
-        self.node = self.hg("-R", "first", "log", "-r", "0", "-T", "{node}")
-        self.hg("-R", "first", "push", f"http://{HUB}:8080/")
+        for number in range(TARGETS):
+            with open(f"{self.room}/first/file", "w", encoding="ascii") as file:
+                file.write(f"{number}\n")
+            self.hg("-R", "first", "commit", "-A", "-m", f"first {number}")
+        self.nodes = self.hg("-R", "first", "log", "-r", "all()", "-T", "{node}\n").split()
+        until("the first push", lambda: self.clients.tried("first", "push", f"http://{HUB}:8080/"), pause=1)
         for name in ("hg1", "hg2"):
             self.hg("clone", f"http://{MACHINES['three']}:8002/", name)
         self.load()
@@ -518,7 +146,8 @@ class Trial:
 
     def serve(self, machine):
         """Starts a host that has to find the store."""
-        machine.serve(self.store, *(("--shared", "--standby") if SHARED else ("--existing",)))
+        flags = ("--shared", "--standby") if SHARED else ("--existing",)
+        machine.serve(self.store, *flags, "--user-header", "x-user")
 
     def follow(self):
         """The mirror and hgweb, on the third machine."""
@@ -526,21 +155,30 @@ class Trial:
         hg = ("hg", "-R", f"{self.room}/mirrored")
         self.mirror = Process(self.room, "three", "mirror", *hg, "mirror", "--store", f"{self.third.at}/{self.store}")
         self.hgweb = Process(self.room, "three", "hgweb", *hg, "serve", "-a", MACHINES["three"], "-p", "8002")
-        line = Line(f"{MACHINES['three']}:8002", None)
-        until("hgweb", lambda: line.ask("GET", {"cmd": "capabilities"}))
+        line = Line(f"{MACHINES['three']}:8002")
+        until("hgweb", lambda: line.ask("GET", {"cmd": "capabilities"})[0] == 200)
 
     def load(self):
-        clients = self.clients
+        clients, front = self.clients, f"{HUB}:8080"
         for number in (1, 2):
-            clients.start(clients.push_keys, f"k{number}", f"{HUB}:8080", None, 0.1)
+            clients.start(clients.push_keys, f"k{number}", front, None, 0.1, SOON)
+            clients.start(clients.race, f"race{number}", front, None, 0.2, SOON)
             clients.start(clients.work, f"hg{number}")
-        clients.start(clients.read, "front", f"{HUB}:8080", None, 0.1)
+        clients.start(clients.read, front, None, 0.1)
+        clients.start(clients.read_all, front, None, 0.5)
+        clients.start(clients.report, front, None, 1)
         for machine in (self.holder, self.other):
-            clients.start(clients.push_keys, f"at-{machine.name}", "127.0.0.1:8000", machine.name, 0.2)
-            clients.start(clients.read, machine.name, "127.0.0.1:8000", machine.name, 0.1)
+            own = ("127.0.0.1:8000", machine.name)
+            clients.start(clients.push_keys, f"at-{machine.name}", *own, 0.2, LATE)
+            clients.start(clients.race, f"race-at-{machine.name}", *own, 0.4, LATE)
+            clients.start(clients.read, *own, 0.1)
+            clients.start(clients.report, *own, 1)
 
     def end(self):
         self.clients.end()
+        for name in glob.glob(f"{self.room}/chg*"):
+            # without its socket the server of chg ends
+            os.remove(name)
         for process in filter(None, (self.mirror, self.hgweb)):
             process.kill()
         for machine in (self.holder, self.other):
@@ -607,71 +245,89 @@ class Trial:
         times = [self.began, *(it for it in times if it > self.began)]
         return max((after - before for before, after in zip(times, times[1:])), default=float("inf"))
 
-    def places(self):
-        """The place of each push in the store, by its token, and how many records it has."""
-        machine = self.other if self.deposed else self.holder
+    def serving(self):
+        return self.other if self.deposed else self.holder
+
+    def moments(self):
+        """What the store has."""
         file = f"{self.room}/pushes"
-        run("cp", f"{machine.at}/{self.store}/pushes", file)
+        run("cp", f"{self.serving().at}/{self.store}/pushes", file)
         with open(file, "rb") as store:
-            data = store.read()
-        at, number, found = HEAD, 0, {}
-        digest = hashlib.sha1(data[:HEAD]).digest()
-        while at < len(data) and data[at] == 255:
-            (size,), front = struct.unpack(">I", data[at + 1:at + 5]), at + 14 + data[at + 13]
-            bundle = data[front + 20:front + 20 + size]
-            digest = hashlib.sha1(digest + data[at + 1:front] + hashlib.sha1(bundle).digest()).digest()
-            if digest != data[front:front + 20]:
-                raise Wrong(f"a wrong digest at place {number}")
-            for token in re.findall(rb"push-[a-z0-9-]+-\d+\.", bundle):
-                found.setdefault(token.decode(), []).append(number)
-            at, number = front + 20 + size, number + 1
-        return found, number
+            return Moments(store.read())
 
     def faults(self):
-        """What is not as it has to be, in lines."""
-        found, number = self.places()
-        pushes, faults = self.clients.pushes, list(self.clients.faults)
-        lost = [it for it, push in pushes.items() if push.answered and it not in found]
-        twice = [it for it, places in found.items() if len(places) > 1]
-        if lost:
-            faults.append(f"{len(lost)} pushes that were answered are not there: {lost[:5]}")
-        if twice:
-            faults.append(f"{len(twice)} pushes are there twice: {twice[:5]}")
-        faults += disorder({it: (pushes[it], places[0]) for it, places in found.items() if it in pushes})
-        if self.deposed:
-            late = [it for it, push in pushes.items()
-                    if push.by == self.deposed.name and push.answered and push.answered > self.over]
-            if late:
-                faults.append(f"the deposed holder answered {len(late)} pushes: {late[:5]}")
-        if SHARED and self.clients.late:
-            faults.append(f"reads that miss what was answered before them: {self.clients.late}")
-        return [*faults, *self.mirrored(number)], number
+        """What is not as it has to be, in lines, and how many records there are."""
+        try:
+            moments = self.moments()
+        except Damaged as damage:
+            return [f"the store: {damage}"], 0
+        faults = [*self.clients.faults, *self.pushed_wrong(moments), *self.told_wrong(moments)]
+        if self.serving().host.status() is not None:
+            faults.append(f"the host that serves ended by itself: {self.serving().host.said()[-400:]}")
+        return [*faults, *self.mirrored(moments)], moments.last
 
-    def mirrored(self, number):
+    def pushed_wrong(self, moments):
+        """Of pushes: each that was answered is there, as often as it was sent at most, and as it was answered."""
+        pushes = self.clients.pushes
+        lost = [it for it, push in pushes.items() if push.answered and it not in moments.places]
+        often = [it for it, places in moments.places.items() if len(places) > (pushes[it].times if it in pushes else 0)]
+        other = [it for it, push in pushes.items() if push.is_set is not None and it in moments.places
+                 and push.is_set != moments.set[moments.place(it)]]
+        told = (("that were answered are not there", lost), ("are there more often than they were sent", often),
+                ("were answered otherwise than they are there", other))
+        return [f"{len(found)} pushes {what}: {found[:5]}" for what, found in told if found]
+
+    def told_wrong(self, moments):
+        """Of all that was told: it stands in one order, and nothing was told by a holder that was deposed."""
+        told, faults = self.clients.told(moments), []
+        late = [it for it in told if self.deposed and it.by == self.deposed.name and it.ended
+                and (it.began > self.over or it.is_push and it.ended > self.over)]
+        if not SHARED:
+            # out of its memory it may read
+            self.stale = {"reads of the deposed holder": sum(not it.is_push for it in late)}
+            old = {id(it) for it, _ in disorder(told) if not it.is_push and it in late}
+            self.stale["of them old"] = len(old)
+            told = [it for it in told if it.is_push or it not in late]
+            late = [it for it in late if it.is_push]
+        if late:
+            faults.append(f"the deposed holder answered {len(late)} times: {[it.what for it in late[:5]]}")
+        wrong = disorder(told)
+        for it, before in wrong[:3]:
+            faults.append(f"{self.told_at(it)} is older than {self.told_at(before) if before else 'all'}")
+        if wrong:
+            faults.append(f"{len(wrong)} of {len(told)} answers do not stand in one order")
+        return faults
+
+    def told_at(self, it):
+        """An answer in words; its times count from the strike on."""
+        ended = "never" if it.ended is None else f"{it.ended - self.began:.2f}"
+        return f"{it.what} by {it.by}, of {it.fits}, asked at {it.began - self.began:.2f} and answered at {ended},"
+
+    def mirrored(self, moments):
+        """Of the mirror and a fresh clone."""
         def is_mirrored():
+            if self.mirror.status() is not None:
+                raise Wrong(f"the mirror ended by itself: {self.mirror.said()[-600:]}")
             with contextlib.suppress(FileNotFoundError, IndexError):
                 with open(f"{self.room}/mirrored/.hg/store/pushes-mirrored", encoding="ascii") as file:
-                    return int(file.read().split()[0]) == number
+                    return int(file.read().split()[0]) == moments.last
             return False
-        if self.mirror.status() is not None:
-            return [f"the mirror ended by itself: {self.mirror.said()[-600:]}"]
         try:
             until("the mirror has all", is_mirrored)
-            self.hg("-R", "mirrored", "verify")
+            self.hg("clone", "-U", f"http://{MACHINES['three']}:8002/", "fresh")
+            for name in ("mirrored", "fresh"):
+                self.hg("-R", name, "verify")
+                nodes = self.hg("-R", name, "log", "-r", "all()", "-T", "{node}\n").split()
+                if nodes != moments.nodes if name == "mirrored" else set(nodes) != set(moments.nodes):
+                    raise Wrong(f"{name} has {len(nodes)} changesets, and not those {len(moments.nodes)} of the store")
+            marks = self.hg("-R", "mirrored", "bookmarks", "-T", "{bookmark} {node|formatnode}\n")
+            marks = {it.split(" ")[0]: it.split(" ")[1] for it in marks.splitlines() if it[:3] != "no "}
+            wanted = {key: value for key, value in moments.values.items() if value}
+            if {key: value[:12] for key, value in wanted.items()} != {key: value[:12] for key, value in marks.items()}:
+                raise Wrong(f"the mirror has {len(marks)} bookmarks, and not those {len(wanted)} of the store")
         except Wrong as wrong:
             return [str(wrong)]
         return []
-
-
-def disorder(pushes):
-    """Pushes that stand before one that was answered before they were sent."""
-    soonest, name = float("inf"), None
-    for token, (push, _) in sorted(pushes.items(), key=lambda it: -it[1][1]):
-        if push.began > soonest:
-            return [f"{token} stands before {name}, which was answered before it was sent"]
-        if push.answered and push.answered < soonest:
-            soonest, name = push.answered, token
-    return []
 
 
 # ---- the drills
@@ -763,74 +419,101 @@ def power(trial):
     trial.follow()
 
 
-def describe(trial, number, faults):
-    counts, clients = trial.clients.counts, trial.clients
-    pushes = list(clients.pushes.values())
-    late = ", ".join(f"{count} at {name}" for name, count in clients.late.items())
-    done = [f"{counts.get(f'hg {it}', 0)} of {counts.get(f'hg {it}', 0) + counts.get(f'hg {it} not done', 0)} {it}es"
-            for it in ("push", "pull")]
-    parts = [f"{sum(bool(it.answered) for it in pushes)} pushes answered in {number} records",
-             f"{sum(it.by == 'front' and not it.answered for it in pushes)} sent to nginx and not answered",
-             f"hg: {done[0]}, {done[1].replace('pulles', 'pulls')} done",
-             f"{clients.reads} reads, late: {late or 'none'}"]
-    if trial.ends_by_itself:
-        parts.append("the deposed holder ended with status 3")
-    print(f"{trial.name} {trial.turn + 1}: no push was answered for {trial.stall():.1f} s; {'; '.join(parts)}: "
-          f"{'as wanted' if not faults else 'NOT AS WANTED: ' + '; '.join(faults)}", flush=True)
+PLAYS = {it.__name__: it for it in (death, machine, cut, freeze, osd, mds, mon, two, power)}
+
+
+class Found:
+    """What a drill found, as it is kept."""
+
+    @staticmethod
+    def of(trial, records, faults, seconds):
+        counts, clients = trial.clients.counts, trial.clients
+        pushes = list(clients.pushes.values())
+        limit = LIMITS.get(trial.name)
+        stall = round(trial.stall(), 2)
+        return {"drill": trial.name, "turn": trial.turn, "good": not faults, "faults": faults, "stall": stall,
+                "limit": limit, "seconds": round(seconds), "load": round(os.getloadavg()[0], 1), "records": records,
+                "shared": SHARED, "answered": sum(bool(it.answered) for it in pushes),
+                "unanswered": sum(it.by == "front" and not it.answered for it in pushes), "reads": len(clients.reads),
+                "fenced": trial.ends_by_itself, "stale": trial.stale,
+                "hg": [counts.get(it, 0) for it in ("hg push", "hg push not done", "hg pull", "hg pull not done")],
+                "keys": {key[9:]: count for key, count in counts.items() if key.startswith("a key by")}}
+
+    @staticmethod
+    def line(it):
+        is_in_time = it["limit"] is None or it["stall"] <= it["limit"]
+        limit = "" if it["limit"] is None else f" ({'within' if is_in_time else 'NOT WITHIN'} {it['limit']})"
+        push, no_push, pull, no_pull = it["hg"]
+        parts = [f"no push was answered for {it['stall']:.1f} s{limit}",
+                 f"{it['answered']} pushes answered in {it['records']} records",
+                 f"{it['unanswered']} sent to nginx and not answered",
+                 f"hg: {push} of {push + no_push} pushes, {pull} of {pull + no_pull} pulls done",
+                 f"{it['reads']} reads and pulls"]
+        parts += [f"{count} {what}" for what, count in it["stale"].items() if count]
+        if it["fenced"]:
+            parts.append("the deposed holder ended with status 3")
+        parts += [f"load {it['load']}", f"{it['seconds']} s in all"]
+        return (f"{it['drill']} {it['turn'] + 1}: {'; '.join(parts)}: "
+                f"{'as wanted' if it['good'] else 'NOT AS WANTED: ' + '; '.join(it['faults'])}")
+
+    @staticmethod
+    def table(found):
+        rows = [("drill", "times", "as wanted", "seconds without an answered push", "in time", "pushes", "reads",
+                 "load")]
+        for name in DRILLS:
+            of = [it for it in found if it["drill"] == name]
+            if of:
+                took = sorted(it["stall"] for it in of)
+                limit = of[0]["limit"]
+                in_time = "" if limit is None else f"{sum(it <= limit for it in took)} within {limit}"
+                loads = [it["load"] for it in of]
+                rows.append((name, str(len(of)), str(sum(it["good"] for it in of)),
+                             f"{took[0]:.1f} to {took[-1]:.1f}, {took[len(took) // 2]:.1f} in the middle", in_time,
+                             str(sum(it["answered"] for it in of)), str(sum(it["reads"] for it in of)),
+                             f"{min(loads):.0f} to {max(loads):.0f}"))
+        wide = [max(len(row[k]) for row in rows) for k in range(len(rows[0]))]
+        return "\n".join("  ".join(it.ljust(size) for it, size in zip(row, wide)).rstrip() for row in rows)
 
 
 def drill(room, cluster, machines, number, name, turn):
-    """Plays a drill; how long no push was answered, and whether all was as wanted."""
-    trial, faults, records = Trial(room, cluster, machines, number, name, turn), [], 0
+    """Plays a drill, and gives what it found."""
+    trial, faults, records, start = Trial(room, cluster, machines, number, name, turn), [], 0, time.monotonic()
     try:
         trial.begin()
-        globals()[name](trial)
+        PLAYS[name](trial)
         trial.goes_on()
         trial.clients.end()
         faults, records = trial.faults()
-    except Wrong as wrong:
-        faults = [str(wrong)]
-    finally:
+    except Exception as fault:  # pylint: disable=broad-except
+        faults = [str(fault) if isinstance(fault, Wrong) else repr(fault)]
+    with contextlib.suppress(Wrong):
         trial.end()
-    for it in machines.values():
-        if it in trial.lost or faults or it.fuse is None:
-            it.again()
-    cluster.wait()
     trial.began = trial.began or time.monotonic()
-    describe(trial, records, faults)
-    return trial.stall(), not faults
+    found = Found.of(trial, records, faults, time.monotonic() - start)
+    print(Found.line(found), flush=True)
+    mend(cluster, machines, trial.lost, bool(faults))
+    return found
+
+
+def mend(cluster, machines, lost, is_wrong):
+    """What was lost begins again; where something went wrong, all."""
+    for name in cluster.dead():
+        print(f"{name} ended by itself", flush=True)
+        cluster.begin(name)
+    for it in machines.values():
+        if it in lost or is_wrong or it.fuse is None or it.fuse.status() is not None:
+            try:
+                it.again()
+            except Wrong as wrong:
+                print(f"once more, for {wrong}", flush=True)
+                cluster.end(*cluster.on)
+                cluster.begin(*cluster.on)
+                cluster.wait()
+                it.again()
+    cluster.wait()
 
 
 # ---- what there is
-
-def missing():
-    """What is not there, in words; nothing where all is."""
-    for tool in TOOLS:
-        if not shutil.which(tool):
-            return f"the command {tool} is not installed"
-    if os.geteuid():
-        return "it needs root, for namespaces and mounts"
-    tried = "mount -t tmpfs none /run && ip netns add x && ip link add x type veth peer name y netns x && " \
-            "ip link add z type bridge"
-    if subprocess.run([*ALONE, "sh", "-c", tried], stdin=subprocess.DEVNULL, stdout=subprocess.DEVNULL,
-                      stderr=subprocess.DEVNULL, check=False).returncode:
-        return "namespaces of processes, mounts and networks are refused here"
-    return None
-
-
-def try_fuse(at):
-    """Mounts a file system of FUSE that nobody serves, and takes it off."""
-    system = ctypes.CDLL(None, use_errno=True)
-    try:
-        device = os.open("/dev/fuse", os.O_RDWR)
-    except OSError as fault:
-        raise Refused(f"/dev/fuse cannot be opened ({fault.strerror})") from fault
-    told = f"fd={device},rootmode=40000,user_id=0,group_id=0".encode()
-    if system.mount(b"none", at.encode(), b"fuse", 0, told):
-        raise Refused(f"FUSE cannot be mounted ({os.strerror(ctypes.get_errno())})")
-    system.umount2(at.encode(), 2)
-    os.close(device)
-
 
 def block_of(words):
     """The lines of docs/cluster.md for nginx that begin with these words."""
@@ -845,91 +528,85 @@ def block_of(words):
 
 
 def front(room):
+    """nginx, by the lines of docs/cluster.md; those that send a push once more are for a host that waits."""
+    again, location = ("proxy_intercept_errors", "location @deqtorap_again") if SHARED else (None, None)
     with open(f"{room}/nginx.conf", "w", encoding="utf-8") as file:
-        file.write(FRONT.format(room=room, hub=HUB, upstream=block_of("upstream"), handing=block_of("proxy_connect")))
+        file.write(FRONT.format(room=room, hub=HUB, upstream=block_of("upstream"), handing=block_of("proxy_connect"),
+                                again=again and block_of(again) or "", location=location and block_of(location) or ""))
     return Process(room, None, "nginx", "nginx", "-c", f"{room}/nginx.conf", "-e", f"{room}/log/nginx.log")
 
 
-def ready(room, program):
-    """The cluster, and the machines with its file system. Where they cannot be had nothing is said of the program."""
-    try:
-        run("mount", "-t", "tmpfs", "none", "/run")
-        os.makedirs(f"{room}/log")
-        os.makedirs(f"{room}/tried")
-        try_fuse(f"{room}/tried")
-        Network.make()
-        cluster = Cluster(room)
-        cluster.make()
-        machines = {name: Machine(cluster, program, name) for name in MACHINES}
-        for it in machines.values():
-            it.mount()
-        return cluster, machines
-    except Wrong as wrong:
-        raise Refused(f"the cluster does not start: {wrong}") from wrong
-
-
-def inside(room, program, drills):
+def inside(room, given, drills, kept):
     began = time.monotonic()
     try:
-        cluster, machines = ready(room, program)
+        cluster, machines = ready(room, os.path.abspath(given.program), given.set)
     except Refused as refused:
         print(f"cluster.py: skipped, {refused}".replace("\n", " "))
         return 0
     proxy = front(room)
     print(f"cluster.py: the cluster is there after {time.monotonic() - began:.0f} s; hosts run "
           f"{'with --shared --standby' if SHARED else 'without --standby'}", flush=True)
-    took, bad, number = {}, 0, 0
+    number, had = 0, {(it["drill"], it["turn"]) for it in kept}
+    found = list(kept)
     for name, count in drills.items():
         for turn in range(count):
+            if (name, turn) in had:
+                continue
             number += 1
-            stall, is_good = drill(room, cluster, machines, number, name, turn)
-            took.setdefault(name, []).append(stall)
-            bad += not is_good
-    for name, seconds in took.items():
-        print(f"{name}: {len(seconds)} times; no push was answered for {min(seconds):.1f} s at least, "
-              f"{sorted(seconds)[len(seconds) // 2]:.1f} in the middle, {max(seconds):.1f} at most")
+            found.append(drill(room, cluster, machines, number, name, turn))
+            if given.results:
+                with open(given.results, "a", encoding="ascii") as file:
+                    file.write(json.dumps(found[-1]) + "\n")
+    print(Found.table(found))
     if proxy.status() is not None:
-        print(proxy.said())
-        bad += 1
+        print(f"nginx ended by itself: {proxy.said()}")
+    bad = sum(not it["good"] for it in found[len(kept):])
     print(f"cluster.py: {number} drills in {time.monotonic() - began:.0f} s, {number - bad} as wanted, {bad} not")
-    return 1 if bad else 0
+    return 1 if bad or proxy.status() is not None else 0
+
+
+def kept_in(files):
+    """What the files of --results have."""
+    found = []
+    for name in files:
+        with contextlib.suppress(FileNotFoundError):
+            with open(name, encoding="ascii") as file:
+                found += [json.loads(line) for line in file]
+    return found
 
 
 def main(words):
     asked = argparse.ArgumentParser(usage="cluster.py PROGRAM [--short] [--drills NAME,..] [--count N] "
-                                           "[--alone] [--keep]")
-    asked.add_argument("program")
+                                          "[--results FILE] [--alone] [--keep] [--set LINE]\n"
+                                          "       cluster.py --table FILE..")
+    asked.add_argument("program", nargs="?")
     asked.add_argument("--short", action="store_true")
     asked.add_argument("--drills", default="")
     asked.add_argument("--count", type=int)
+    asked.add_argument("--results")
+    asked.add_argument("--table", nargs="+")
     asked.add_argument("--alone", action="store_true")
     asked.add_argument("--keep", action="store_true")
+    asked.add_argument("--set", action="append", default=[])
     asked.add_argument("--inside", help=argparse.SUPPRESS)
     given = asked.parse_args(words)
+    if given.table:
+        print(Found.table(kept_in(given.table)))
+        return 0
+    if not given.program:
+        asked.error("which program?")
     names = given.drills.split(",") if given.drills else SHORT if given.short else list(DRILLS)
     if unknown := [it for it in names if it not in DRILLS]:
         asked.error(f"there are no drills {', '.join(unknown)}, but {', '.join(DRILLS)}")
     drills = {it: given.count or (1 if given.short else DRILLS[it]) for it in names}
-    program = os.path.abspath(given.program)
     if given.inside:
         global SHARED
-        SHARED = not given.alone and "--standby" in run(program, "host", "--help")
-        return inside(given.inside, program, drills)
-    if why := missing():
+        SHARED = not given.alone and "--standby" in run(os.path.abspath(given.program), "host", "--help")
+        return inside(given.inside, given, drills, kept_in([given.results] if given.results else []))
+    if why := missing((*TOOLS, "hg", "nginx")):
         print(f"cluster.py: skipped, {why}")
         return 0
-    room = tempfile.mkdtemp(prefix="cluster-", dir="/var/tmp")
-    inner = subprocess.Popen([*ALONE, sys.executable, os.path.abspath(__file__), *words, "--inside", room])
-    # with it all that runs in its namespaces ends
-    for it in (signal.SIGTERM, signal.SIGINT, signal.SIGHUP):
-        signal.signal(it, lambda *_: inner.kill())
-    try:
-        return 1 if inner.wait() else 0
-    finally:
-        if given.keep:
-            print(f"cluster.py: the logs are in {room}")
-        else:
-            shutil.rmtree(room)
+    return 1 if alone(__file__, words, given.keep) else 0
 
 
 if __name__ == "__main__":

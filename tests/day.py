@@ -1,18 +1,19 @@
 #!/usr/bin/env python3
 """A day of random pushes by three real clients, beside hostile ones, and a look at all at each of so many moments.
 
-    python3 tests/day.py PROGRAM [--minutes N] [--moments M] [--seed S]
+    python3 tests/day.py PROGRAM [--minutes N] [--moments M] [--seed S] [--tell]
 
 Three clients (tests/clients.py) push to `host`, which asks the hook before each push, and pull from hgweb over the
 mirror. Beside them two others push what would stop or mislead the mirror (tests/hook.py), whole, cut and changed at
 random, and send requests of no form to both servers. Every few seconds the mirror, the push server or the hook is
 killed and started again. At each of M moments (100, or as many as the time is enough for) a fresh clone is made:
 `hg verify` finds nothing in it and in the mirror, and it has what the server had answered before it began: changesets
-that are not obsolete, what is public, bookmarks. All the time hgweb is asked for what the server has just answered.
-In the end the mirror has what the server reports, line by line. N is 1440 if left out. It needs the command hg, and
-ends with a summary and a status.
+that are not obsolete, what is public, bookmarks. All the time hgweb is asked for what the server has just answered. In
+the end the mirror has what the server reports, line by line. N is 1440 if left out. With --tell each moment has a line.
+It needs the command hg, and ends with a summary and a status.
 """
 import argparse
+import contextlib
 import http.client
 import json
 import os
@@ -29,6 +30,7 @@ import urllib.parse
 import urllib.request
 
 import clients
+import history
 from clients import TOP, Client, Place
 
 UNBUNDLE = "/?cmd=unbundle&heads=666f726365"
@@ -43,7 +45,7 @@ class Day(Place):
 
     def __init__(self, folder, program):
         super().__init__(folder, program, False)
-        self.running, self.lock, self.faults = {}, threading.Lock(), []
+        self.running, self.lock, self.faults, self.tells = {}, threading.Lock(), [], False
 
     def serve(self):
         self.make("mirrored")
@@ -85,6 +87,16 @@ class Day(Place):
     def said(self, name):
         with open(f"{self.folder}/{name}.log", encoding="utf-8", errors="replace") as log:
             return log.read()[-2000:]
+
+    def verify(self, name):
+        """What `hg verify` finds in a repository; nothing where it finds nothing. The mirror is not killed meanwhile,
+        and has taken back what was half done when it was killed before: until then Mercurial's readers see it."""
+        with self.lock if name == "mirrored" else contextlib.nullcontext():
+            journal, end = f"{self.folder}/{name}/.hg/store/journal", time.monotonic() + 2 * PATIENCE
+            while os.path.exists(journal) and time.monotonic() < end:
+                time.sleep(0.02)
+            status, said = self.run("hg", "-R", name, "verify")
+        return said if status else ""
 
     def report(self):
         """The report of the server; it is asked until it answers."""
@@ -206,6 +218,16 @@ def work(client):
         client.act()
 
 
+def guarded(day, does, *words):
+    """The same; what ends it otherwise is a fault."""
+    def run():
+        try:
+            does(*words)
+        except Exception as fault:  # pylint: disable=broad-except
+            day.faults.append(f"{does.__qualname__}: {fault!r}")
+    return threading.Thread(target=run)
+
+
 def kill_some(day, choose):
     """Kills one of the three every few seconds."""
     while not day.is_over:
@@ -219,34 +241,49 @@ def rows_of(report):
     return changesets, {line.split()[2]: line.split()[1] for line in report if line[:2] == "B "}
 
 
-def lacks(before, after, clone):
-    """What a clone lacks of what was there before it, and still is behind it."""
+def set_between(day, first, last):
+    """What each bookmark was asked to be on by the pushes from one place to another."""
+    words = [day.program, "log", "--store", f"{day.folder}/store", "--from", str(first), "--canonical"]
+    told = subprocess.run(words, stdin=subprocess.DEVNULL, stdout=subprocess.PIPE, check=True).stdout
+    found = {}
+    for bundle in list(history.bundles_in(told))[:last - first]:
+        for name, node in history.bookmarks_of(bundle):
+            found.setdefault(clients.escaped(name), set()).add(node)
+    return found
+
+
+def lacks(before, after, clone, moved):
+    """What a clone lacks of what was there before it, and still is behind it. A bookmark may also be where a push put
+    it meanwhile."""
     (was, marks), (still, marks_still), (has, marks_have) = before, after, clone
     return ([node for node in was if node in still and node not in has]
             + [node for node, phase in was.items() if phase == "0" and has.get(node, "0") != "0"]
-            + [mark for mark, node in marks.items() if marks_still.get(mark) == node and marks_have.get(mark) != node])
+            + [f"the bookmark {mark} on {node}: it is on {marks_have.get(mark)}" for mark, node in marks.items()
+               if marks_still.get(mark) == node and marks_have.get(mark) != node
+               and marks_have.get(mark, "") not in moved.get(mark, ())])
 
 
 def look(day, number):
     """A moment: a fresh clone, compared and verified, and the mirror verified; how many changesets it had. Nothing
     where the clone was refused."""
-    name, before = f"moment{number}", rows_of(day.report())
+    name, report = f"moment{number}", day.report()
     status, said = day.run("hg", "clone", "-q", "-U", f"http://127.0.0.1:{day.ports['hgweb']}/", name)
     if status:
         print(f"moment {number}: no clone: {said[-200:]}", flush=True)
         return None
     try:
-        after, clone = rows_of(day.report()), rows_of(clients.lines_of(day, name))
-        missing = lacks(before, after, clone)
+        later, clone = day.report(), rows_of(clients.lines_of(day, name))
+        first, last = (sum(line.startswith("J ") for line in it) for it in (report, later))
+        missing = lacks(rows_of(report), rows_of(later), clone, set_between(day, first, last))
         if missing:
-            day.faults.append(f"moment {number}: a clone lacks {missing[:5]}")
+            day.faults.append(f"moment {number}: a clone made between {first} and {last} pushes lacks {missing[:5]}")
         for repository in (name, "mirrored"):
-            status, said = day.run("hg", "-R", repository, "verify")
-            if status:
+            if said := day.verify(repository):
                 day.faults.append(f"moment {number}: verify of {repository}: {said[-1000:]}")
         return len(clone[0])
     finally:
-        shutil.rmtree(f"{day.folder}/{name}", ignore_errors=True)
+        if not day.faults:
+            shutil.rmtree(f"{day.folder}/{name}", ignore_errors=True)
 
 
 def look_at_moments(day, minutes, moments):
@@ -259,8 +296,11 @@ def look_at_moments(day, minutes, moments):
         time.sleep(max(0, wait))
         if day.is_over or day.faults:
             break
-        found = look(day, number)
+        began, found = time.monotonic(), look(day, number)
         had, last = had + (found is not None), found or last
+        if day.tells and found is not None:
+            print(f"moment {number}: {found} changesets, {day.count()} pushes are mirrored, {day.kills} kills; it took "
+                  f"{time.monotonic() - began:.0f} s, load {os.getloadavg()[0]:.0f}", flush=True)
     return had, last
 
 
@@ -276,10 +316,9 @@ def start_all(day, seed):
         if not hostile[0].push(bytes.fromhex(data)):
             sys.exit(f"what the hostile pushes build on is refused\n{day.said('hook')}")
     people = [Client(day, number, seed) for number in range(clients.CLIENTS)]
-    threads = [threading.Thread(target=work, args=(it,)) for it in people]
     watcher = Watcher(day)
-    threads += [threading.Thread(target=it.work) for it in (*hostile, watcher)]
-    threads.append(threading.Thread(target=kill_some, args=(day, random.Random(seed))))
+    threads = [guarded(day, work, it) for it in people] + [guarded(day, it.work) for it in (*hostile, watcher)]
+    threads.append(guarded(day, kill_some, day, random.Random(seed)))
     for it in threads:
         it.start()
     return people, hostile, watcher, threads
@@ -307,9 +346,11 @@ def main(words):
     parser.add_argument("--minutes", type=float, default=1440)
     parser.add_argument("--moments", type=int, default=100)
     parser.add_argument("--seed", default="1")
+    parser.add_argument("--tell", action="store_true")
     asked = parser.parse_args(words)
     folder = tempfile.mkdtemp(prefix="day-")
     day = Day(folder, os.path.abspath(asked.program))
+    day.tells = asked.tell
     try:
         day.serve()
         people, hostile, watcher, threads = start_all(day, asked.seed)
@@ -323,7 +364,11 @@ def main(words):
         done = settle(day)
     finally:
         day.end()
-        shutil.rmtree(folder)
+        if day.faults:
+            print(f"all of it is in {folder}")
+        else:
+            # what a command of a client that was ended still writes is no matter
+            shutil.rmtree(folder, ignore_errors=True)
     pushed, through = (sum(getattr(it, what) for it in hostile) for what in ("pushed", "done"))
     told = "NOT AS WANTED: " + "\n".join(day.faults) if day.faults or not had else "as wanted"
     print(f"day.py: {asked.minutes:g} minutes, seed {asked.seed}: {done} pushes are done, {changesets} changesets; of "

@@ -1,8 +1,10 @@
 """Stores made by hand, read and ended by the built program: store.py PROGRAM [NAME..]
 
-Each case writes the file of a store byte by byte, as its format is, and runs `report`, `log`, `cut` or `replay`. It
-compares the status, standard output, the lines on standard error, and every file below the case's own folder.
+Each case writes the file of a store byte by byte, as its format is, and runs `report`, `log`, `cut`, `replay` or
+`import`. It compares the status, standard output, the lines on standard error, and every file below the case's own
+folder.
 """
+import concurrent.futures
 import datetime
 import fcntl
 import glob
@@ -460,6 +462,113 @@ def a_gate_or_a_size_changed(room):
     room.looks("report --store store", journal(1))
     room.store(data[:HEAD] + data[ends[1]:ends[2]] + data[HEAD:ends[1]] + SHUT)
     room.looks("report --store store", status=3, line="store/pushes: damage at place 0")
+
+
+# ---- each byte with each value
+
+# what is tried in the place of a byte that no gate, length, digest or name's length has: that and so much more
+MORE = (1, 2, 127, 128, 254, 255)
+
+
+def bytes_changed(data, ends):
+    """Each place behind the head, whose record it is, whether it is a gate, and the other bytes that are put there: all
+    255 of a gate, a length, a digest and the length of a name."""
+    for place, start in enumerate(ends):
+        behind = ends[place + 1] if place + 1 < len(ends) else start + 1
+        for at in range(start, behind):
+            named = start + 14 + (data[start + 13] if behind > start + 1 else 0)
+            is_each = at < start + 5 or at == start + 13 or named <= at < named + 20
+            values = [it for it in range(256) if it != data[at]] if is_each else [(data[at] + it) % 256 for it in MORE]
+            yield at, place, at == start, values
+
+
+def serve_once(room, data):
+    """A store is opened to be served, and gets one push more. What is told, and the files of the store."""
+    room.store(data)
+    done = room.start("import", "--store", "store", "--existing", "more")
+    found = found_in(room.path("store"))
+    for name in found:
+        if name != ".":
+            os.remove(room.path(f"store/{name}"))
+    return done.returncode, done.stdout.decode(), done.stderr.decode(), found
+
+
+def is_kept(told, data, ends, place):
+    """It was served from a place on; all that stood behind it stands in a file beside it, and a line says so."""
+    status, output, said, found = told
+    whole, tail = data[:ends[place]], data[ends[place]:]
+    line = (f"hg_pushd: store/pushes: {place} pushes are whole; {len(tail)} bytes behind them are kept in "
+            f"store/pushes.tail-{place}\n")
+    return ((status, output, said) == (0, f"{place}\n", line) and set(found) == {".", "pushes", f"pushes.tail-{place}"}
+            and found[f"pushes.tail-{place}"] == tail and found["pushes"][:len(whole)] == whole)
+
+
+def is_refused(told, data, place):
+    """It was not served, the line names the place, and no byte of the file changed."""
+    status, output, said, found = told
+    return ((status, output) == (3, "") and found == {".": None, "pushes": data}
+            and said in (f"hg_pushd: store/pushes: a store that is not read: damage behind {place} whole records\n",
+                         f"hg_pushd: {torn('store', place)}\n"))
+
+
+def each_value(job):
+    """What is wrong where one byte of a store has other values: how it is served, and how it is reported."""
+    data, ends, (at, place, is_gate, values) = job
+    wrong = []
+    with tempfile.TemporaryDirectory(prefix="store-") as folder:
+        room = Room(folder)
+        with open(room.path("more"), "wb") as file:
+            file.write(EMPTY)
+        for value in values:
+            changed = data[:at] + bytes([value]) + data[at + 1:]
+            told = serve_once(room, changed)
+            is_shut = is_gate and value == 0
+            if not (is_kept(told, changed, ends, place) if is_shut else is_refused(told, changed, place)):
+                wrong.append(f"served with {value} at {at}: {told[:3]}")
+            room.store(changed)
+            done = room.start("report", "--store", "store")
+            is_torn = done.stderr.decode() == f"hg_pushd: {torn('store', place)}\n"
+            is_damaged = done.stderr.decode() == f"hg_pushd: store/pushes: damage at place {place}\n"
+            wanted = (0, journal(place)) if is_shut or is_torn else (3, b"")
+            if (done.returncode, done.stdout) != wanted or not (is_damaged or is_torn or is_shut and not done.stderr):
+                wrong.append(f"reported with {value} at {at}: {done.returncode} {done.stdout} {done.stderr}")
+    return len(values), wrong
+
+
+@case
+def each_byte_with_each_value(_):
+    """A store of two pushes, in which one byte behind the head is another: all other values of the gates, the lengths
+    and the digests. It is refused, and stays as it is. Where a gate was shut it is served up to there, and what stood
+    behind it is kept and told; `report` says nothing of it, since it may stand for a push on its way."""
+    data, ends = store_of((bundle((b"note", (), b"one")), bundle((b"note", (), b"two"))))
+    jobs = [(data, ends, it) for it in bytes_changed(data, ends)]
+    tried, wrong = 0, []
+    with concurrent.futures.ProcessPoolExecutor(os.cpu_count()) as workers:
+        for count, found in workers.map(each_value, jobs, chunksize=4):
+            tried, wrong = tried + count, wrong + found
+    want("stores that were not as wanted", wrong, [])
+    want("how many were tried", tried, (3 + 2 * (4 + 1 + 20)) * 255 + 2 * (8 + 3 + len(data[ends[1] + 37:-1])) * 6)
+
+
+@case
+def served_at_each_length(_):
+    """The same store cut at each of its lengths: behind its head and each of its records it is served with what is
+    whole, and else refused, and then it stays as it is."""
+    data, ends = store_of((bundle((b"note", (), b"one")), bundle((b"note", (), b"two"))))
+    with tempfile.TemporaryDirectory(prefix="store-") as folder:
+        room = Room(folder)
+        with open(room.path("more"), "wb") as file:
+            file.write(EMPTY)
+        for length in range(len(data)):
+            told = serve_once(room, data[:length])
+            if length in ends:
+                place = ends.index(length)
+                want(f"what is told at {length}", told[:3], (0, f"{place}\n", ""))
+                want(f"the store at {length}", (set(told[3]), told[3]["pushes"][:length]), ({".", "pushes"}, data[:length]))
+            elif length < HEAD:
+                want(f"the status at {length}", (told[0], told[3]["pushes"]), (3, data[:length]))
+            elif not is_refused(told, data[:length], sum(it <= length for it in ends) - 1):
+                raise Wrong(f"at {length}: {told[:3]}")
 
 
 @case

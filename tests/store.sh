@@ -6,4 +6,4 @@ if ! command -v python3 > /dev/null; then
     echo 'python3 is missing: no store was tried.'
     exit 1
 fi
-exec timeout 300 python3 "$here/store.py" "$@"
+exec timeout 600 python3 "$here/store.py" "$@"

@@ -1,7 +1,7 @@
 /* Pushes to `hg_pushd host` over the loopback, each by a request of its own on a connection that stays. Arguments:
-   the port, the bytes of a bundle, and how many connections there are, each on a thread. The bundle has one advisory
-   part of a type that is not known, so that the repository has nothing to do. It prints pushes a second that were
-   answered as done. */
+   the port, the bytes of a bundle, how many connections there are, each on a thread, and for how many seconds they
+   push, one if left out. The bundle has one advisory part of a type that is not known, so that the repository has
+   nothing to do. It prints pushes a second that were answered as done. */
 #define _GNU_SOURCE
 #include <arpa/inet.h>
 #include <netinet/tcp.h>
@@ -90,7 +90,7 @@ static void *push(void *unused) {
 }
 
 int main(int count, char **words) {
-    if (count != 4)
+    if (count != 4 && count != 5)
         return 2;
     port = atoi(words[1]);
     size = strtoul(words[2], NULL, 10);
@@ -98,7 +98,7 @@ int main(int count, char **words) {
     make_request();
     pthread_t threads[number];
     double start = now();
-    until = start + 1;
+    until = start + (count == 5 ? atof(words[4]) : 1);
     for (long i = 0; i < number; i++)
         if (pthread_create(&threads[i], NULL, push, NULL) != 0)
             fail("no thread");
