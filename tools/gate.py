@@ -46,6 +46,7 @@ PIECES = {
     "imports": ["tests/import.py"],
     "followers": ["tests/follow.py"],
     "what is synced": ["tests/synced.py"],
+    "a lying disk": ["tests/lying.py"],
     "standbys": ["tests/standby.py"],
     "examples": ["tests/check.sh"],
 }

@@ -25,7 +25,7 @@ GROUPS = {
     "repository": ["hg_parts_tests", "hg_repo_tests", "hg_push_tests", "hg_replay_tests", "hg_recovery_tests",
                    "hg_store_tools_tests"],
     "threads": ["hg_queue_tests", "hg_serve_tests", "hg_connection_tests", "hg_commit_tests", "hg_durable_tests",
-                "hg_tcp_tests", "hg_commands_tests"],
+                "hg_tcp_tests", "hg_commands_tests", "hg_import_tests"],
     "http": ["hg_http_tests", "hg_queries_tests", "hg_status_tests", "hg_web_tests"],
 }
 
