@@ -2,3 +2,5 @@ mod Feeding
 mod Running
 mod Stops
 mod Folders
+mod Taking
+mod Next

@@ -4,6 +4,7 @@ ghost use Rattle.std.specs.Prelude.{◌≡◌, ◌<◌, ◌^◌, [], IfOk, lengt
 ghost use Rattle.hg_store.specs.Entries.{IsStamp};
 ghost use Rattle.hg_store.specs.Records.{IsSized, numbers_of};
 
+use crate::history::History;
 use crate::numbers::Numbers;
 use hg_types::{NoMemory, Seq};
 use std::alloc::{Allocator, Global};
@@ -161,4 +162,25 @@ impl<'a> Standing<'a> {
         let bundle = Seq::copy_of(alloc, self.bundle)?;
         Ok(Entry::new(Stamp::new(self.time, name), bundle))
     }
+}
+
+/// A record that was read in pieces, and does not stand in memory.
+#[derive(Drop)]
+pub struct Passed<'a> {
+    pub time: u64,
+    pub name: &'a [u8],
+    /// What came of its bundle, which only contracts see.
+    pub pieces: History,
+}
+
+impl<'a> Model for Passed<'a> {
+    ghost use Rattle.hg_store.specs.Calls.{bytes_in};
+    ghost use Rattle.hg_store.specs.Entries.{Entry as AnyEntry};
+
+    ghost Value = { AnyEntry };
+
+    ghost view = { λ s. record {
+      stamp = record { time = s.time; name = s.name.now };
+      bundle = bytes_in s.pieces.events;
+    } };
 }

@@ -41,6 +41,7 @@
 //! SHA-1 of its bundle.
 #![tactic(auto)]
 
+mod bundle;
 mod calls;
 mod device;
 mod entry;
@@ -49,6 +50,7 @@ mod folder;
 mod front;
 mod gates;
 mod head;
+mod heading;
 mod history;
 mod host;
 mod kept;
@@ -67,9 +69,10 @@ mod sealed;
 mod start;
 mod tail;
 
+pub use bundle::{BundleTaker, Passing};
 pub use calls::Calls;
 pub use device::{Device, DeviceError};
-pub use entry::{Entry, Stamp, Standing};
+pub use entry::{Entry, Passed, Stamp, Standing};
 pub use file::StoreFile;
 pub use folder::{
     begin_store, create_store, kept_file, make_folder, new_identity, new_store, open_held,

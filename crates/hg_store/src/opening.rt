@@ -132,7 +132,11 @@ pub fn recover<A: Allocator + Copy, D: Device, K: TailKeeper>(
 }
 
 /// Leaves a shut gate at the end of the records, and nothing after it.
-pub(crate) fn shut_gate<D: Device>(device: &mut D, end: usize, len: usize) -> Result<(), DeviceError>
+pub(crate) fn shut_gate<D: Device>(
+    device: &mut D,
+    end: usize,
+    len: usize,
+) -> Result<(), DeviceError>
     requires len { len ≡ length (D.seen device.old) }
     requires end { end ≤ len }
     ensures at_rest { (head : Head) (records : List AnyEntry) → EndsAt head records end (D.seen device.old) →

@@ -4,6 +4,7 @@ ghost use Rattle.std.specs.Prelude.{◌<◌, ◌^◌, IfOk, length};
 ghost use Rattle.std.specs.List.{AllByRecursion};
 ghost use Rattle.hg_store.specs.Records.{IsSized};
 
+use crate::opening_tests::Basket;
 use hg_help_store_tests::folder::open_store;
 use hg_store::*;
 use hg_types::{Limits, NoMemory, Seq};
@@ -34,11 +35,9 @@ fn refusal(rt: &HostRuntime, folder: &str, setup: &Setup) -> Option<StoreFault> 
 fn first_of(rt: &HostRuntime, folder: &str) -> Result<Vec<u8>, Fail> {
     let alloc = rt.alloc();
     let mut opening = begin_store(alloc, &mut StoreFolder::new(rt, folder), &standard())?;
-    let mut bundle = Vec::new(alloc);
-    if opening.read_next()? {
-        bundle.extend_from_slice(opening.bundle())?;
-    }
-    Ok(bundle)
+    let mut basket = Basket::new(alloc);
+    opening.read_next(&mut basket)?;
+    Ok(basket.bytes)
 }
 
 /// All bytes of a file, read from the disk.

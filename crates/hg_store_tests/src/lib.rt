@@ -16,6 +16,10 @@
 //!   at each length; each gate with each other value, and each other byte with six; from readers that fail at each
 //!   byte; the head and the records over heaps below 600 bytes. Result: as by hand; as of all bytes at once; the whole
 //!   records before, and that the reader failed; the same, or out of memory.
+//! - the store of version 2 opened, its records read in pieces: cut at each length; each gate with each other value, and
+//!   each other byte with six; bundles of so many bytes around one and two pieces of 256 KiB, whole, with the last byte
+//!   turned and cut there; in a file that fails at each of its reads; over heaps below 560 KiB. Result: as of all bytes
+//!   at once; whole, damaged, torn; the records before, and that the device failed; the same, or out of memory.
 //! - each byte of each record with each other value. Result: damage after the records before it; or torn, or the
 //!   end, by a gate or a size.
 //! - a batch of 1, 2 and 3 records after one, where the file fails at each of its calls: 8, 12 and
@@ -58,6 +62,8 @@
 mod device_tests;
 #[cfg(test)]
 mod folder_tests;
+#[cfg(test)]
+mod opening_tests;
 #[cfg(test)]
 mod paper;
 #[cfg(test)]
