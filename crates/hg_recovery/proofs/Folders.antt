@@ -1,8 +1,8 @@
 -- A store that is made where there is none.
-use Rattle.std.proofs.Common.{◌≡◌, inl, inr, ℕ, List, ◌∷◌, ap, arith, refl, subst, sym}
+use Rattle.std.proofs.Common.{◌≡◌, inl, inr, List, ◌∷◌, ap, arith, refl, subst, sym}
 use Rattle.std.specs.Prelude.{Result, Ok, Err, MatchResult}
 use Rattle.hg_store.specs.Calls.{Event, missed}
-use Rattle.hg_store.specs.Tails.{IsKeptAtMost, LosesNothing, tails_in}
+use Rattle.hg_store.specs.Tails.{IsKeptAtMost, tails_in}
 use Rattle.hg_store.specs.Folders.{IsMadeAtMost, IsMissedAtMost, IsMissedFor}
 use Rattle.hg_store.specs.declared.start.StoreFault.{StoreFault}
 use Rattle.hg_store.specs.declared.start.StoreFault.TheVariants.{Missing, Exists, Held, Linked, OtherPublishing, OtherLimits, Recover}
@@ -55,11 +55,10 @@ once_for fault before now (inl kept) = inl kept
 once_for fault before now (inr none) = inr (missed ∷ before, inl refl, inl (inl none))
 
 -- it was looked for once, and would be made
-pub once_made : {T : Type 0} (r : Result T StoreFault) (before now : List Event)
-    → MatchResult r (λ _. now ≡ before) (λ fault. IsMissedFor fault before now)
-    → MatchResult r (λ _. IsBegunIf Create before now) (λ _. AreNamesIf Create before now)
-once_made (Ok found) before now same = inl same
-once_made (Err fault) before now looked = once_for fault before now (missed_for fault before now looked)
+pub once_named : {T : Type 0} (r : Result T StoreFault) (before now : List Event)
+    → MatchResult r (λ _. now ≡ before) (λ fault. IsMissedFor fault before now) → AreNamesIf Create before now
+once_named (Ok found) before now same = inl (inl same)
+once_named (Err fault) before now looked = once_for fault before now (missed_for fault before now looked)
 
 -- there was none, and one was made and looked for
 pub made_then : {T : Type 0} (r : Result T StoreFault) (before none made now : List Event) → none ≡ missed ∷ before

@@ -2,3 +2,4 @@ mod Feeding
 mod Running
 mod Stops
 mod Folders
+mod Following

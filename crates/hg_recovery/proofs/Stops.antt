@@ -1,6 +1,6 @@
 -- Records that are run as they are read.
-use Rattle.std.proofs.Common.{◌≡◌, ◌∙◌, ◌+◌, ◌<◌, ℕ, Bool, List, [], ◌∷◌, ◌++◌, ap, append-nil, arith, get_or, length}
-use Rattle.std.proofs.Common.{◌⊎◌, inl, inr, length-append, refl, subst, sym, take}
+use Rattle.std.proofs.Common.{◌≡◌, ◌∙◌, ℕ, Bool, List, [], ◌∷◌, ◌++◌, ap, append-nil, arith, get_or, length}
+use Rattle.std.proofs.Common.{◌⊎◌, Err, IsErrOf, inl, inr, length-append, refl, subst, sym, take}
 use Rattle.std.proofs.lemmas.List.{get_or_push, take_at}
 use Rattle.std.specs.List.{AllByRecursion}
 use Rattle.hg_types.specs.Limits.{standard_limits}
@@ -15,8 +15,9 @@ use Rattle.hg_store.specs.Tails.{LosesNothing}
 use Rattle.hg_store.specs.declared.head.Setup.{Setup}
 use Rattle.hg_store.specs.declared.start.StoreFault.{StoreFault}
 use Rattle.hg_store.specs.declared.head.Version.TheVariants.{Second}
-use Rattle.hg_recovery.specs.Opening.{StopsOpening, StopsRead, empty_repository, head_of, setup_for}
+use Rattle.hg_recovery.specs.Opening.{StopsRead, empty_repository, head_of, setup_for}
 use Rattle.hg_recovery.specs.Replays.{IsUnrun, Replays, ReplaysOne}
+use Rattle.hg_recovery.specs.declared.opening.OpeningFault.TheVariants.{Store}
 use Rattle.hg_recovery.specs.declared.restore.RestoreFault.{RestoreFault}
 use Rattle.hg_recovery.proofs.Running.{join_lem}
 
@@ -63,6 +64,11 @@ stops_read A publishing identity records grown entry bundle bytes last place fau
         },
       );
     }
+
+-- which fault of the store is told
+pub store_is : {T : Type 0} (found fault : StoreFault) → IsErrOf {T = T} (Err (Store found)) (Store fault)
+    → found ≡ fault
+store_is found fault is = cc
 
 -- why a store was not begun
 pub unbegun : {Read : Type 0} (drawn : Read → List ℕ) (history : Read → List Event) (found fault : StoreFault)

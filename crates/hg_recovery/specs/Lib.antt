@@ -2,3 +2,4 @@ pub mod Replays
 pub mod Recovery
 pub mod Faults
 pub mod Opening
+pub mod Standbys

@@ -17,8 +17,10 @@
 pub mod laws;
 mod opening;
 mod restore;
+mod standby;
 
 pub use opening::{
     IfMissing, OpeningFault, Recovered, empty_repository, recover_store,
 };
 pub use restore::{RestoreFault, record_parts, replay_record, replay_records};
+pub use standby::Standby;

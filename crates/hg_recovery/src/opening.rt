@@ -161,7 +161,7 @@ pub fn recover_store<R: Files<File = File>>(
 }
 
 /// How a server is set up that publishes, or does not.
-fn setup_for(publishing: bool) -> Setup
+pub(crate) fn setup_for(publishing: bool) -> Setup
     ensures { result ≡ setup_for publishing }
 {
     Setup {

@@ -17,3 +17,4 @@ mod Brought
 mod AtRest
 mod Tails
 mod Again
+mod Followed

@@ -94,6 +94,7 @@ impl<C: Calls, A: Allocator + Copy> Opening<C, A> {
             IfErr result (λ fault. IsUnopened fault setup (C.Calls.drawn self.new.calls)
             (C.Calls.history self.old.calls) (C.Calls.history self.new.calls)) }
         ensures same { C.Calls.history self.new.calls ≡ C.Calls.history self.old.calls }
+        ensures name { self.new.identity ≡ self.old.identity }
     {
         if self.end >= MOST_BYTES {
             return Err(StoreFault::from(DeviceError::Full));

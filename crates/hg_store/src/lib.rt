@@ -64,6 +64,7 @@ mod placed;
 mod read;
 mod record;
 mod sealed;
+mod standby;
 mod start;
 mod tail;
 
@@ -72,13 +73,13 @@ pub use device::{Device, DeviceError};
 pub use entry::{Entry, Stamp, Standing};
 pub use file::StoreFile;
 pub use folder::{
-    begin_store, create_store, kept_file, make_folder, new_identity, new_store, open_held,
-    store_file,
+    begin_store, create_store, follow_store, hold_store, kept_file, make_folder, new_identity,
+    new_store, open_held, store_file,
 };
 pub use front::{Opening, open_file, pass_records};
 pub use head::{Head, HeadFault, Setup, Version};
 pub use history::{Call, History};
-pub use host::{HostFile, read_all};
+pub use host::{Hold, HostFile, read_all};
 pub use kept::KeptTail;
 pub use log::Log;
 pub use names::StoreFolder;

@@ -20,12 +20,12 @@ use std::alloc::{Allocator, Global};
 use std::test::*;
 
 /// Calls of which none fails.
-const NO_LIMIT: usize = 1000;
+pub const NO_LIMIT: usize = 1000;
 
 const RECORDS: [&[u8]; 4] = [b"first", b"", b"second", b"the third one"];
 
 /// How the server is set up in these tests.
-fn standard() -> Setup {
+pub fn standard() -> Setup {
     Setup {
         publishing: true,
         limits: Limits::standard(),
@@ -38,7 +38,7 @@ fn head() -> Head {
 }
 
 /// A store of the first so many records, with a shut gate.
-fn store_of(alloc: Global, count: usize) -> Result<Vec<u8>, Fail> {
+pub fn store_of(alloc: Global, count: usize) -> Result<Vec<u8>, Fail> {
     let mut file = Vec::new(alloc);
     head().put(&mut file)?;
     let mut digest = read_records(alloc, &file)?.digest;

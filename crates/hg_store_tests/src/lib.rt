@@ -50,6 +50,11 @@
 //!   one is cut over heaps below 1,600, read over heaps below 1,200, and made over heaps below 400;
 //!   the bytes of one with a record are made over heaps below 1,200. Result: out of memory, and
 //!   nothing was written, or all is done; both occur.
+//! - a store that is followed while it gets a record after the other; three records that were read, each byte of which
+//!   is then turned, and cut short; looks that fail, one after the other. Result: each record once its gate is open, and
+//!   all at the takeover; they stand there no more where a gate or the last digest is another; the device failed. In a
+//!   folder: held by another, held, cut, another file, shorter. Result: it waits, it is held, it is gone each time, and
+//!   what is followed is not changed before it is held.
 //! - a head and a record put after each other over heaps below 800 bytes. Result: by hand, or the
 //!   first bytes of them and out of memory; the head, the record and neither are refused.
 #![tactic(auto)]
@@ -62,6 +67,8 @@ mod folder_tests;
 mod paper;
 #[cfg(test)]
 mod pieces_tests;
+#[cfg(test)]
+mod standby_tests;
 #[cfg(test)]
 mod tail_tests;
 #[cfg(test)]

@@ -17,9 +17,8 @@ use hg_connection::Writer;
 use libc::net::{POLLERR, POLLHUP, POLLNVAL, poll};
 use libc::types::pollfd;
 use std::alloc::Allocator;
-use std::fs::{File, Files, Metadata};
+use std::fs::{File, Files};
 use std::io::{BufReader, ErrorKind, Seek, SeekFrom};
-use std::os::fd::AsRawFd;
 use std::os::unix::fs::{FileExt, MetadataExt};
 use std::{fs, io};
 
@@ -199,18 +198,6 @@ pub fn follow_store<'a, R: Files<File = File>, A: Allocator + Copy, W: Writer>(
     }
 }
 
-/// Has the system read the file from the disk: what it keeps of it is brought there and dropped, since after a sync
-/// that failed it may be other than what the disk has. A later failure is told by the sync of this file. Gives what
-/// is known of the file.
-fn read_anew(file: &File) -> io::Result<Metadata> {
-    file.sync_data()?;
-    let advised = libc::posix_fadvise(file.as_raw_fd(), 0, 0, libc::POSIX_FADV_DONTNEED);
-    if advised != 0 {
-        return Err(io::Error::from_raw_os_error(advised));
-    }
-    file.metadata()
-}
-
 /// What is looked at while that file is followed.
 fn watch_of<'a, R: Files<File = File>, A: Allocator + Copy>(
     files: &'a R,
@@ -219,7 +206,7 @@ fn watch_of<'a, R: Files<File = File>, A: Allocator + Copy>(
     output: i32,
     file: &File,
 ) -> Result<Watch<'a, R, A>, Fault> {
-    let found = match read_anew(file) {
+    let found = match file.metadata() {
         Ok(found) => found,
         Err(error) => return Err(fault_of(error)),
     };

@@ -16,6 +16,7 @@ use hg_store::{
 use std::alloc::Allocator;
 use std::fs::{File, Files};
 use std::io::{BufReader, ErrorKind, Read, Seek, SeekFrom, Write};
+use std::os::fd::AsRawFd;
 use std::{fs, io};
 
 /// The error of the system as a fault of a store.
@@ -41,7 +42,7 @@ pub fn fault_of_store(fault: StoreFault) -> Fault {
 /// How many bytes of a store are read at a time.
 const READ_AHEAD: usize = 65_536;
 
-/// A reader of the store in a folder, which is not held.
+/// A reader of the store in a folder, which is not held, from the disk.
 pub fn store_reader<R: Files<File = File>, A: Allocator + Copy>(
     files: &R,
     alloc: A,
@@ -51,10 +52,25 @@ pub fn store_reader<R: Files<File = File>, A: Allocator + Copy>(
         Ok(file) => file,
         Err(fault) => return Err(fault_of_store(fault)),
     };
+    if let Err(error) = read_anew(&file) {
+        drop(file);
+        return Err(fault_of(error));
+    }
     match BufReader::with_capacity(alloc, READ_AHEAD, file) {
         Ok(reader) => Ok(reader),
         Err(error) => Err(fault_of(error)),
     }
+}
+
+/// Has the system read the file from the disk: what it keeps of it is brought there and dropped, since after a sync
+/// that failed it may be other than what the disk has. A later failure is told by the sync of this file.
+fn read_anew(file: &File) -> io::Result<()> {
+    file.sync_data()?;
+    let advised = libc::posix_fadvise(file.as_raw_fd(), 0, 0, libc::POSIX_FADV_DONTNEED);
+    if advised != 0 {
+        return Err(io::Error::from_raw_os_error(advised));
+    }
+    Ok(())
 }
 
 /// Where a log of the store in a folder that begins at that place begins to read, and a reader that is there. All records

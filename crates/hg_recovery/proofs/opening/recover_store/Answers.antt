@@ -6,7 +6,7 @@ use Rattle.hg_store.specs.Tails.{LosesNothing}
 use Rattle.hg_recovery.specs.Opening.{IsRecovered, head_of, setup_for}
 use Rattle.hg_recovery.specs.declared.opening.OpeningFault.TheVariants.{Restore, Store}
 use Rattle.hg_recovery.proofs.Folders.{names_begun, names_if}
-use Rattle.hg_recovery.proofs.Stops.{unbegun, unfinished, unread_is}
+use Rattle.hg_recovery.proofs.Stops.{store_is, unbegun, unfinished, unread_is}
 use Rattle.hg_recovery.proofs.opening.recover_store.Goals as goal
 
 pub run_records-requires-clause-read : goal.run_records-requires-clause-read
@@ -51,7 +51,7 @@ returns-in_err-repo-clause-names g c =
 
 pub returns-in-Err-clause-unopened : goal.returns-in-Err-clause-unopened
 returns-in-Err-clause-unopened g c = λ fault is.
-    let same : c.in-Err.left.fault ≡ fault = cc is in
+    let same = store_is c.in-Err.left.fault fault is in
     let why = unfinished c.in-Err.left.fault fault (setup_for c.args.publishing)
     (bytes_in c.in-Err.left.calls.pieces.events) c.run_records.new.opening.calls.history.events
     c.in-Err.left.calls.history.events c.finish.new.keeper same

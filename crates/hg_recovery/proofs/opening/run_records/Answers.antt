@@ -1,4 +1,4 @@
-use Rattle.std.proofs.Common.{◌≡◌, ◌∙◌, ◌+◌, ◌∷◌, [], ℕ, List, Bool, ap, arith, inl, length, length-append, refl, subst, sym}
+use Rattle.std.proofs.Common.{◌≡◌, ◌∙◌, ◌∷◌, [], ℕ, List, Bool, ap, arith, length, length-append, refl, subst, sym}
 use Rattle.std.proofs.lemmas.Result.{err_from_is_err_and}
 use Rattle.hg_types.specs.Limits.{standard_limits}
 use Rattle.hg_types.specs.declared.limits.Limits.{Limits}
@@ -9,7 +9,6 @@ use Rattle.hg_store.specs.Openings.{HasNext, IsUnopened}
 use Rattle.hg_store.specs.declared.start.StoreFault.{StoreFault}
 use Rattle.hg_recovery.specs.Opening.{empty_repository, setup_for}
 use Rattle.hg_recovery.specs.Replays.{IsUnrun, Replays, ReplaysOne}
-use Rattle.hg_recovery.specs.declared.restore.RestoreFault.{RestoreFault}
 use Rattle.hg_recovery.proofs.Stops.{ran_more, stops_read}
 use Rattle.hg_recovery.proofs.opening.run_records.Goals as goal
 
@@ -26,6 +25,13 @@ loop-place-init c =
       settings = ap (λ r. r.settings) repo;
       same = refl;
     }
+
+pub bundle-requires : goal.bundle-requires
+bundle-requires c =
+    let next = subst (λ (more : Bool). HasNext (λ f. bytes_in f.pieces.events) (setup_for c.args.publishing) more
+    c.loop-place.opening c.read_next.new.self) c.if-not-branch.false
+    (c.in_ok-read_next.ensures.read (setup_for c.args.publishing) c.loop-place.invariant.read) in
+    next.1.1.within
 
 pub loop-place-preserved : goal.loop-place-preserved
 loop-place-preserved c =
@@ -88,8 +94,7 @@ returns-then-not-branch-clause-ran c =
 pub returns-in_err-read_next-clause-unopened : goal.returns-in_err-read_next-clause-unopened
 returns-in_err-read_next-clause-unopened c = λ fault is.
     let i = c.loop-place.invariant in
-    let p = err_from_is_err_and c.from_residual-in_err-read_next.result
-    c.from_residual-in_err-read_next.ensures.1 in
+    let p = err_from_is_err_and c.from_residual.result c.from_residual.ensures.1 in
     let same : c.in_err-read_next.field-0.0 ≡ fault = cc in
     let bytes : List ℕ = bytes_in c.read_next.new.self.calls.pieces.events in
     let now : List Event = c.read_next.new.self.calls.history.events in

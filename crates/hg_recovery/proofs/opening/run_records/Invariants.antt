@@ -12,6 +12,6 @@ invariant-loop-place l = record {
   read : HasRead (λ f. bytes_in f.pieces.events) (setup_for l.publishing) [] l.opening;
   count : length l.opening.records.entries ≡ l.place;
   ran : Replays standard_limits (empty_repository (setup_for l.publishing)) l.opening.records.entries l.repo;
-  settings : l.repo.settings ≡ (empty_repository (setup_for l.publishing)).settings;
+  settings : l.repo.settings ≡ record { publishing = l.publishing; limits = standard_limits; first_push = 0 };
   same : l.opening.calls.history.events ≡ l.fn.opening.calls.history.events;
 }
