@@ -47,6 +47,7 @@ PIECES = {
     "followers": ["tests/follow.py"],
     "what is synced": ["tests/synced.py"],
     "standbys": ["tests/standby.py"],
+    "weighed pushes": ["tests/weighed.py"],
     "examples": ["tests/check.sh"],
 }
 # what looks how long an answer takes, or may lose the end of one on a busy machine: nothing runs beside it
