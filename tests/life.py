@@ -15,10 +15,11 @@ import sys
 import tempfile
 import time
 
-from bundles import CAPS, EMPTY, NULL, ROOT_PUSH, bundle, group
+from bundles import CAPS, EMPTY, NULL, ROOT_PUSH, bundle, group, node_of
 from host import EMPTY_REPLY, Host, Wrong, answer, request, want
 
 PUSH = ("content-type: application/mercurial-0.1", "x-hgarg-1: heads=666f726365")
+ROOT_NODE = node_of(b"root")
 CASES = []
 
 
@@ -275,10 +276,9 @@ def bodies_hold_no_more_than_the_memory(host):
 
 
 @case
-def bodies_that_were_answered_keep_their_memory(host):
-    """Forty connections that stay after a body of 6 MiB each, where 16 MiB are allowed for all. A connection keeps the
-    block of its longest body, so there is room for two, and the others are refused. These two go on: their next
-    bodies lie in the same blocks. When all are gone, there is room again."""
+def bodies_that_were_answered_give_their_memory_back(host):
+    """Forty connections that stay after a body of 6 MiB each, where 16 MiB are allowed for all: each has room, and so
+    has its next body."""
     with gives_back():
         host.start("--memory", str(16 << 20))
     push, lines, refused = request("/?cmd=unbundle", bytes(6 << 20), PUSH), [], []
@@ -293,14 +293,43 @@ def bodies_that_were_answered_keep_their_memory(host):
     most = resident(host)
     print(f"    {sum(refused)} of 40 bodies of 6 MiB are refused where 16 MiB are allowed and connections stay; the"
           f" process held {most:.0f} MiB at most")
-    want("the first two have room", refused, [False] * 2 + [True] * 38)
+    want("all have room", refused, [False] * 40)
     want("it held less than 64 MiB", most < 64, True)
-    want("they have it still", [is_without_room(it) for it in lines[:3]], [False, False, True])
+    want("they have it again", [is_without_room(it) for it in lines], [False] * 40)
     for it in lines:
         it.close()
     want("they are gone", becomes(host, 1), True)
-    with host.connect() as line:
-        want("another has it then", is_without_room(line), False)
+
+
+@case
+def answers_that_nobody_reads(host):
+    """Answers of 13 MB count until they are sent: where 64 MiB are allowed, seven connections that read nothing have
+    four of them, and the others are told that there is no memory. A push beside them is done. Once they are gone, there
+    is room again."""
+    with gives_back():
+        host.start("--memory", str(64 << 20))
+    names = b"".join(ROOT_NODE + (90).to_bytes(2, "big") + b"%090d" % place for place in range(100_000))
+    want("the bookmarks are there", host.push(bundle(CAPS, group((b"root", NULL)), (b"bookmarks", (), names)))[0], 200)
+    ask, lines = request("/?cmd=listkeys&namespace=bookmarks", None, ()), []
+    before = resident(host)
+    for _ in range(7):
+        lines.append(host.connect())
+        lines[-1].setsockopt(socket.SOL_SOCKET, socket.SO_RCVBUF, 4096)
+        lines[-1].sendall(ask)
+        time.sleep(0.5)
+    held = resident(host) - before
+    want("a push beside them", host.push(EMPTY)[2], EMPTY_REPLY)
+    told = [answer(it.makefile("rb")) for it in lines]
+    full = sum(len(it[2]) > 13_000_000 for it in told)
+    refused = sum(it[1:] == ("application/hg-error", b"out of memory\n") for it in told)
+    print(f"    {full} of 7 answers of 13 MB were held, in {held:.0f} MiB, and {refused} were refused")
+    want("each was one of the two", full + refused, 7)
+    want("how many are held", full, 4)
+    want("it held less than four of them thrice", held < 4 * 3 * 14, True)
+    for it in lines:
+        it.close()
+    want("they are gone", becomes(host, 1), True)
+    want("there is room again", len(host.ask("/?cmd=listkeys&namespace=bookmarks")[2]) > 13_000_000, True)
 
 
 @case

@@ -197,6 +197,7 @@ fn terms_of<'a>(hosting: &Hosting<'a>) -> HostTerms<'a> {
         capacity: hosting.capacity,
         idle: hosting.idle,
         memory: usize::try_from(hosting.memory).unwrap_or(usize::MAX),
+        text: hosting.text,
         path: hosting.path,
         name: hosting.name,
         user: hosting.user_header,

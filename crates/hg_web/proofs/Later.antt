@@ -26,6 +26,7 @@ use Rattle.hg_http.specs.Addresses.{fault_of}
 use Rattle.hg_http.specs.Commands.{command_of}
 use Rattle.hg_http.specs.Requests.{arguments_of, is_from_client, name_of}
 use Rattle.hg_http.specs.declared.hook.policy.Verdict.{Verdict}
+use Rattle.hg_web.specs.Budgets.{IsRoomFor}
 use Rattle.hg_web.specs.Letting.{denial_of, IfLet}
 use Rattle.hg_web.specs.Answering.{AnswersAddressed, AnswersAsked, AnswersBatch, AnswersCommand, AnswersForced, AnswersKey}
 use Rattle.hg_web.specs.Answering.{AnswersPush, AnswersRequest}
@@ -107,6 +108,44 @@ text_or_lacks first kept before answer after Finds (Ok t) look is =
     inl (record { text = t; looks = look; answer_is = is })
 text_or_lacks first kept before answer after Finds (Err e) look is =
     inr (looked_in_vain first kept before answer after _ look is)
+
+-- the same of a text for which there may be no room
+pub held_or_lacks : {A E : Type 0} (first : RepositoryOf A) (kept : ReceiptView → KeptSeen A → ℕ → Type 0)
+    (before : KeptSeen A) (answer : HttpAnswer A) (after : KeptSeen A) (Finds : Repository A → Result (List ℕ) E → Type 0)
+    (text held : Result (List ℕ) E) (was now : ℕ) → LooksKept first kept before after (λ repo. Finds repo text)
+    → IsRoomFor text was held now → MatchResult held (λ t. answer ≡ Text t) (λ _. answer ≡ Refused NoMemory)
+    → OrLacks true (IsTextAt first kept (λ repo t. Finds repo (Ok t))) before answer after
+held_or_lacks first kept before answer after Finds (Ok t) (Ok u) was now look room is =
+    inl (record { text = t; looks = look; answer_is = is ∙ ap Text room.0 })
+held_or_lacks first kept before answer after Finds (Ok t) (Err f) was now look room is =
+    inr (looked_in_vain first kept before answer after _ look is)
+held_or_lacks first kept before answer after Finds (Err e) (Ok u) was now look room is = absurd room
+held_or_lacks first kept before answer after Finds (Err e) (Err f) was now look room is =
+    inr (looked_in_vain first kept before answer after _ look is)
+
+-- what is held of a text that was found was found
+pub held_is_found : {E : Type 0} (P : List ℕ → Type 0) (text held : Result (List ℕ) E) (was now : ℕ) →
+    IsRoomFor text was held now → IfOk text P → IfOk held P
+held_is_found P (Ok t) (Ok u) was now room found = subst P (sym room.0) found
+held_is_found P (Err e) (Ok u) was now room found = absurd room
+held_is_found P text (Err f) was now room found = tt
+
+-- a look that finds something finds what follows from it
+pub looked_as : {A : Type 0} (first : RepositoryOf A) (kept : ReceiptView → KeptSeen A → ℕ → Type 0)
+    (before after : KeptSeen A) (P Q : Repository A → Type 0) → ((repo : Repository A) → P repo → Q repo) →
+    LooksKept first kept before after P → LooksKept first kept before after Q
+looked_as first kept before after P Q f look = record {
+  asked = look.asked;
+  promised = look.promised;
+  comes = look.comes;
+  one = look.one;
+  repo = look.repo;
+  looks = look.looks;
+  has_all = look.has_all;
+  grows = look.grows;
+  is_kept = look.is_kept;
+  answers = f look.repo look.answers;
+}
 
 module _ {A E : Type 0} (first : RepositoryOf A) (kept : ReceiptView → KeptSeen A → ℕ → Type 0) (before : KeptSeen A)
     (answer : HttpAnswer A) (after : KeptSeen A) (IsText : Repository A → List ℕ → Type 0)

@@ -6,3 +6,4 @@ pub mod Dismissals
 pub mod Answering
 pub mod Serving
 pub mod code
+pub mod Budgets

@@ -1,11 +1,13 @@
-//! How many bytes the bodies of all requests hold together.
+//! How many bytes the bodies of all requests, and the answers to them, hold together.
 
+use hg_types::{NoMemory, Seq};
+use std::alloc::Allocator;
 use std::sync::{Mutex, Wait};
 
-/// How many bytes of a request are free: a head has no more.
+/// How many bytes of a request are free, a head has no more, and how many of an answer: a reply to a push is shorter.
 const FREE: usize = 16_384;
 
-/// How many bytes the bodies of all requests may hold together. It is shared by all connections of a server.
+/// How many bytes the bodies of all requests, and the answers to them, may hold together. It is shared by all connections of a server.
 #[derive(Drop)]
 pub struct Budget {
     left: Mutex<usize>,
@@ -37,7 +39,8 @@ impl Budget {
     }
 }
 
-/// What one connection holds of it: as many bytes as its longest body had, and a head is free.
+/// What the bodies of one connection hold of it: as many bytes as the longest one has that was not answered yet, and a
+/// head is free.
 #[derive(Drop)]
 pub(crate) struct Share<'a> {
     budget: &'a Budget,
@@ -52,7 +55,7 @@ pub(crate) struct Share<'a> {
 }
 
 impl<'a> Share<'a> {
-    ghost use Rattle.std.specs.Prelude.{◌≡◌, nat_lt};
+    ghost use Rattle.std.specs.Prelude.{◌≡◌, ◌<◌, ◌↔◌, IsTrue, nat_lt};
 
     /// Nothing yet.
     pub(crate) fn new(budget: &'a Budget) -> Share<'a> {
@@ -100,16 +103,92 @@ impl<'a> Share<'a> {
         self.came > 0
     }
 
-    /// Forgets what came, since it was answered. What was taken stays taken: the connection keeps the block of its
-    /// longest body, and what comes next lies in that block.
-    pub(crate) fn forget(&mut self) {
+    /// Forgets what came, since it was answered. What was taken stays taken as long as the connection keeps the block of
+    /// that body.
+    pub(crate) fn forget(&mut self)
+        ensures came { self.new.came ≡ 0 }
+        ensures taken { self.new.taken ≡ self.old.taken }
+    {
         self.came = 0;
         self.is_over = false;
     }
 
+    /// Whether the block of a body that was answered is kept for nothing.
+    pub(crate) fn is_idle(&self) -> bool
+        ensures { IsTrue result ↔ ((self.now.came ≡ 0) × (0 < self.now.taken)) }
+    {
+        self.came == 0 && self.taken > 0
+    }
+
     /// Gives all back: the connection is gone, and its block with it.
-    pub(crate) fn clear<R: Wait>(&mut self, rt: &R) {
+    pub(crate) fn clear<R: Wait>(&mut self, rt: &R)
+        ensures came { self.new.came ≡ 0 }
+        ensures taken { self.new.taken ≡ 0 }
+    {
         self.forget();
+        if self.taken > 0 {
+            self.budget.give_back(rt, self.taken);
+            self.taken = 0;
+        }
+    }
+}
+
+/// What the answers of one connection hold of it, until they are sent. A short one is free.
+#[derive(Drop)]
+pub struct Room<'a> {
+    budget: &'a Budget,
+    /// How many bytes were taken of the budget.
+    taken: usize,
+}
+
+impl<'a> Room<'a> {
+    ghost use Rattle.std.specs.Prelude.{◌≡◌, ◌+◌, true, false};
+    ghost use Rattle.hg_web.specs.Budgets.{IsRoomFor};
+
+    /// No answer waits.
+    pub fn new(budget: &'a Budget) -> Room<'a>
+        ensures { result.taken ≡ 0 }
+    {
+        Room { budget, taken: 0 }
+    }
+
+    /// The text of an answer, where there is room for it until it is sent.
+    pub(crate) fn hold<R: Wait, A: Allocator>(
+        &mut self,
+        rt: &R,
+        text: Result<Seq<u8, A>, NoMemory>,
+    ) -> Result<Seq<u8, A>, NoMemory>
+        ensures { IsRoomFor text self.old.taken result self.new.taken }
+    {
+        let text = text?;
+        if self.take(rt, text.len().saturating_sub(FREE)) {
+            return Ok(text);
+        }
+        Err(NoMemory)
+    }
+
+    /// Takes so many bytes more, if they are left.
+    fn take<R: Wait>(&mut self, rt: &R, bytes: usize) -> bool
+        ensures taken { result ≡ true → self.new.taken ≡ self.old.taken + bytes }
+        ensures none { result ≡ false → self.new.taken ≡ self.old.taken }
+    {
+        if bytes == 0 {
+            return true;
+        }
+        let Some(taken) = self.taken.checked_add(bytes) else {
+            return false;
+        };
+        if !self.budget.take(rt, bytes) {
+            return false;
+        }
+        self.taken = taken;
+        true
+    }
+
+    /// Gives all back: the answers were sent, or are lost.
+    pub(crate) fn clear<R: Wait>(&mut self, rt: &R)
+        ensures { self.new.taken ≡ 0 }
+    {
         if self.taken > 0 {
             self.budget.give_back(rt, self.taken);
             self.taken = 0;

@@ -131,6 +131,8 @@ const LOST: &[u8] =
 enum Stretch {
     /// HTTP has nothing more to do.
     Done,
+    /// All requests that came were answered, and all answers were sent.
+    Answered,
     /// A request found no room. Those before it were answered, and all answers were sent.
     Refused {
         /// Whether it was read whole.
@@ -138,7 +140,8 @@ enum Stretch {
     },
 }
 
-/// Serves one stretch of requests after the other: each ends where a request finds no room.
+/// Serves one stretch of requests after the other: each ends where a request finds no room, or where a long body was
+/// answered, so that its memory is given back.
 fn serve_stretches<
     J: Storing<A>,
     D: Device,
@@ -182,6 +185,7 @@ fn serve_stretches<
         share.clear(rt);
         match ended? {
             Stretch::Done => return Ok(()),
+            Stretch::Answered => {}
             Stretch::Refused { is_whole } => {
                 if refuse(is_whole, &mut follower, reader, writer)? {
                     return Ok(());
@@ -260,6 +264,7 @@ fn last_refusal(
 {
     match ended {
         Ok(Stretch::Done) => unread(connection),
+        Ok(Stretch::Answered) => None,
         Ok(Stretch::Refused { .. }) => Some(no_room_or_lost(share.has_ended())),
         Err(_) => lost_if(share.is_begun()),
     }
@@ -372,7 +377,7 @@ fn pass_over<I: BufRead>(is_whole: bool, follower: &mut Follower, reader: &mut I
     Err(ErrorKind::TimedOut.into())
 }
 
-/// Reads, answers and writes until the connection is done, or a request finds no room.
+/// Reads, answers and writes until the connection is done, or a long body was answered, or a request finds no room.
 fn converse<
     J: Storing<A>,
     D: Device,
@@ -415,6 +420,7 @@ fn converse<
         }
         let is_idle = !connection.wants_write();
         send_all(connection, writer)?;
+        wire.give_room_back();
         if connection.is_done() {
             writer.flush()?;
             return Ok(Stretch::Done);
@@ -422,6 +428,9 @@ fn converse<
         if is_idle {
             // The peer may be waiting for what a buffered writer holds.
             writer.flush()?;
+            if is_whole && share.is_idle() {
+                return Ok(Stretch::Answered);
+            }
             if !share.has_room() {
                 return Ok(Stretch::Refused { is_whole });
             }

@@ -254,7 +254,7 @@ fn a_body_finds_no_room(rt: HostRuntime) {
 
 /// What a body takes is taken once for its connection, and is there again for the next one.
 #[test]
-fn what_a_body_takes_stays_with_its_connection(rt: HostRuntime) {
+fn what_a_body_took_is_given_back(rt: HostRuntime) {
     let alloc = rt.alloc();
     let body = long_body(&rt, alloc, 30_000);
     let asked = push_with_length(&rt, alloc, 30_000, body.as_slice());

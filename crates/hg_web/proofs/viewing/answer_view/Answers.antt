@@ -3,7 +3,7 @@ use Rattle.hg_http.specs.declared.view.StatusView.{StatusView}
 use Rattle.hg_commit.specs.Clients.{IsKept}
 use Rattle.hg_queries.specs.Views.{IsViewed}
 use Rattle.hg_web.specs.Answering.{AnswersView, around_of, OrLacks}
-use Rattle.hg_web.proofs.Later.{shown_or_lacks, went}
+use Rattle.hg_web.proofs.Later.{held_is_found, looked_as, shown_or_lacks, went}
 use Rattle.hg_web.proofs.viewing.answer_view.Goals as goal
 
 pub returns-in-Ok : goal.returns-in-Ok
@@ -16,5 +16,7 @@ returns-in-Ok g c =
     subst (λ (v : Option StatusView). OrLacks true (AnswersView g.J.Naming.first around v) c.args.client c.shown_answer.result
     after) (sym c.in-Some.is)
     (shown_or_lacks g.J.Naming.first kept c.args.client c.shown_answer.result after
-    (IsViewed around.page around.metrics c.in-Some.view) c.in-Some.view around.stored c.in-Ok.rests c.in-Ok.text found.0
-    found.1 c.shown_answer.ensures)
+    (IsViewed around.page around.metrics c.in-Some.view) c.in-Some.view around.stored c.in-Ok.rests c.hold-held.result
+    (looked_as g.J.Naming.first kept c.args.client after _ _
+    (λ repo. held_is_found (IsViewed around.page around.metrics c.in-Some.view repo) c.in-Ok.text c.hold-held.result _ _
+    c.hold-held.ensures) found.0) found.1 c.shown_answer.ensures)

@@ -1,0 +1,2 @@
+mod Measuring
+mod Measured
