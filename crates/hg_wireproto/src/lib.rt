@@ -21,6 +21,7 @@ mod branchmap;
 mod capabilities;
 mod copied;
 mod covered;
+mod doubt;
 mod form;
 mod head_ids;
 mod heads;
