@@ -245,8 +245,8 @@ impl<J: Storing<A>, D: Device, A: Allocator + Copy> Disk<J, D, A> {
         self.batch.push_reserved(entry);
     }
 
-    /// Writes the batch, syncs it and promises it, and asks for no memory. Where that fails, the device is broken from
-    /// then on.
+    /// Writes the batch, syncs it and promises it, and does not fail where memory is refused. Where it fails, the device
+    /// is broken from then on.
     pub fn write(&mut self, tally: &OpenTally<J, A>)
         ensures lasting { self.old.is_broken ≡ true → self.new.is_broken ≡ true }
         ensures history { self.new.history ≡ self.old.history }

@@ -488,13 +488,13 @@ fn asked<R: Wait + RandomSource + Abort>(
 }
 
 // Receipts are asked for before a push and after it, and another client's request comes before it and after it. The
-// device takes three calls to open the store, with one sync, and eight for a record, with two. Result: a receipt each
+// device takes three calls to open the store, with one sync, and four for a record, with two. Result: a receipt each
 // time, with no sync but these three, and the later request finds one record promised; where the device stops at a
 // call of the record, the receipt before the push alone, and no record promised.
 #[test]
 fn receipts_before_a_push_and_after_it(rt: HostRuntime) {
     let alloc = rt.alloc();
-    for calls in [11, 12, 1_000] {
+    for calls in [7, 8, 1_000] {
         let receipts = Receipts {
             before: true,
             of_one: true,
@@ -504,7 +504,7 @@ fn receipts_before_a_push_and_after_it(rt: HostRuntime) {
         };
         assert_eq!(rt; asked(&rt, alloc, calls, false), receipts, "{calls} calls");
     }
-    for (calls, syncs) in [(3, 1usize), (5, 1), (7, 1), (8, 1), (9, 2), (10, 2)] {
+    for (calls, syncs) in [(3, 1usize), (4, 1), (5, 2), (6, 2)] {
         let receipts = Receipts {
             before: true,
             of_one: false,
@@ -525,12 +525,12 @@ fn receipts_with_beats(rt: HostRuntime) {
     for (calls, before, of_one, of_none, syncs, count) in [
         (4, false, false, false, 1usize, 0u64),
         (5, true, false, false, 2, 0),
-        (12, true, false, false, 3, 0),
-        (13, true, false, false, 4, 1),
-        (14, true, false, false, 4, 1),
-        (15, true, true, false, 5, 1),
-        (16, true, true, false, 5, 1),
-        (17, true, true, true, 6, 1),
+        (8, true, false, false, 3, 0),
+        (9, true, false, false, 4, 1),
+        (10, true, false, false, 4, 1),
+        (11, true, true, false, 5, 1),
+        (12, true, true, false, 5, 1),
+        (13, true, true, true, 6, 1),
         (1_000, true, true, true, 6, 1),
     ] {
         let receipts = Receipts {
@@ -614,18 +614,18 @@ fn turned<R: Wait + RandomSource + Abort>(rt: &R, alloc: Global, calls: usize) -
 }
 
 // Two clients push three times each, in turn, each with the receipt that it has. The device takes three calls to
-// open the store and eight for a record. Result: after the ledger's end the receipt of each is compared with its
+// open the store and four for a record. Result: after the ledger's end the receipt of each is compared with its
 // tally. Where the device stops, a client whose first push was kept still has its receipt, and one that had none
 // of its own kept has none.
 #[test]
 fn receipts_of_two_clients_grow(rt: HostRuntime) {
     let alloc = rt.alloc();
     for (calls, has_first, has_second, kept) in [
-        (10usize, false, false, 0usize),
-        (11, true, false, 1),
-        (19, true, true, 2),
-        (27, true, true, 3),
-        (51, true, true, 6),
+        (6usize, false, false, 0usize),
+        (7, true, false, 1),
+        (11, true, true, 2),
+        (15, true, true, 3),
+        (27, true, true, 6),
         (1_000, true, true, 6),
     ] {
         let turns = Turns {

@@ -451,8 +451,8 @@ fn any_number<R: RandomSource + Abort>(rt: &R) -> usize {
     (u16::from_be_bytes(bytes) % 4_096) as usize
 }
 
-// 200 pushes of each of eight connections. The device stops at a call that is drawn, and once at none. A done push
-// takes two calls, and each batch four more, so that the draw reaches about as far as the pushes.
+// 200 pushes of each of eight connections. The device stops at a call that is drawn, and once at none. A batch
+// takes four calls, so that the draw reaches as far as the pushes, of which a batch has one or more.
 #[test]
 fn many_pushes_on_a_device_that_stops_anywhere(rt: HostRuntime) -> Result<(), Fail> {
     let alloc = rt.alloc();
@@ -473,18 +473,18 @@ fn many_pushes_on_a_device_that_stops_anywhere(rt: HostRuntime) -> Result<(), Fa
 }
 
 // Two clients have two connections each, in turn, of two pushes, each with the receipt that it has. The device takes
-// three calls to open the store and eight for a record. Result: after the ledger's end the receipt of each is compared
+// three calls to open the store and four for a record. Result: after the ledger's end the receipt of each is compared
 // with its tally. Each has one, since a request of it came, also where the device stops before it was answered.
 #[test]
 fn receipts_of_two_clients_grow(rt: HostRuntime) {
     let alloc = rt.alloc();
     for (calls, done, kept) in [
-        (10usize, (0usize, 0usize), 0usize),
-        (11, (1, 0), 1),
-        (19, (2, 0), 2),
-        (27, (2, 1), 3),
-        (43, (3, 2), 5),
-        (67, (4, 4), 8),
+        (6usize, (0usize, 0usize), 0usize),
+        (7, (1, 0), 1),
+        (11, (2, 0), 2),
+        (15, (2, 1), 3),
+        (23, (3, 2), 5),
+        (35, (4, 4), 8),
         (1_000, (4, 4), 8),
     ] {
         let turns = Turns {

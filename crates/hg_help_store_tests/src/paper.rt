@@ -133,6 +133,31 @@ impl Calls for Paper {
         Ok(())
     }
 
+    fn go_back(&mut self, place: usize) -> Result<(), DeviceError> {
+        if self.call().is_err() {
+            return Err(DeviceError::Failed);
+        }
+        self.at = place;
+        self.is_over = false;
+        self.pieces = self.pieces.and(&Call::WentBack(place));
+        Ok(())
+    }
+
+    fn look<A: Allocator>(
+        &mut self,
+        at: usize,
+        count: usize,
+        bytes: &mut Vec<u8, A>,
+    ) -> Result<(), DeviceError> {
+        if self.call().is_err() {
+            return Err(DeviceError::Failed);
+        }
+        let piece = piece_of(&self.bytes, at, count);
+        bytes.extend_from_slice(piece)?;
+        self.history = self.history.and(&Call::Looked(at, piece));
+        Ok(())
+    }
+
     fn note_read(&mut self) {
         self.history = self.history.and_read(&self.pieces);
     }

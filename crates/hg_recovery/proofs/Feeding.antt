@@ -54,7 +54,7 @@ module _ {A : Type 0} (u v : Unbundler A) (verdict : HasOneVerdict A (limits_of 
   front = grind (arith, common_steps)
 
   -- it ended before the bytes did
-  early_lem : state_of v ≡ Ended → count < length bytes → IsNoBundle A (limits_of u) bytes
+  pub early_lem : state_of v ≡ Ended → count < length bytes → IsNoBundle A (limits_of u) bytes
   early_lem ended few parts bundle =
       let told = subst (λ (s : State). StateTells s (limits_of v) (take count bytes) (ready_of v)) ended holds.tells in
       let mine = subst (λ (l : Limits). IsBundle l (take count bytes) (ready_of v)) same told in
@@ -65,7 +65,7 @@ module _ {A : Type 0} (u v : Unbundler A) (verdict : HasOneVerdict A (limits_of 
       omega (arith, long, short, few)
 
   -- it still reads after all bytes
-  reading_lem : state_of v ≡ Reading → count ≡ length bytes → IsNoBundle A (limits_of u) bytes
+  pub reading_lem : state_of v ≡ Reading → count ≡ length bytes → IsNoBundle A (limits_of u) bytes
   reading_lem reads all parts bundle =
       let told = subst (λ (s : State). StateTells s (limits_of v) (take count bytes) (ready_of v)) reads holds.tells in
       let taken : take count bytes ≡ bytes = ap (λ (n : ℕ). take n bytes) all ∙ take-length bytes in
@@ -79,7 +79,7 @@ module _ {A : Type 0} (u v : Unbundler A) (verdict : HasOneVerdict A (limits_of 
       (subst (λ (b : List ℕ). length b ≤ (limits_of u).stream) (sym whole) mine.1)
 
   -- it met a fault of the bytes
-  fault_lem : (fault : StreamFault) → state_of v ≡ Failed fault → fault ≢ NoMemory → fault ≢ Truncated
+  pub fault_lem : (fault : StreamFault) → state_of v ≡ Failed fault → fault ≢ NoMemory → fault ≢ Truncated
       → IsNoBundle A (limits_of u) bytes
   fault_lem fault failed room whole parts bundle =
       let told = subst (λ (s : State). StateTells s (limits_of v) (take count bytes) (ready_of v)) failed holds.tells in
@@ -89,18 +89,6 @@ module _ {A : Type 0} (u v : Unbundler A) (verdict : HasOneVerdict A (limits_of 
       None mine bundle front in
       let apart : Some fault ≡ None = one.2 in
       cc
-
-  -- it took what it took and has not ended there
-  pub unended_lem : (s : State) → state_of v ≡ s → (s ≡ Ended → count < length bytes)
-      → (s ≡ Reading → count ≡ length bytes) → ((fault : StreamFault) → s ≢ Failed fault)
-      → IsNoBundle A (limits_of u) bytes
-  unended_lem Ended is few all fails = early_lem is (few refl)
-  unended_lem Reading is few all fails = reading_lem is (all refl)
-  unended_lem (Failed fault) is few all fails = absurd (fails fault refl)
-
-  pub failed_lem : (fault : StreamFault) → state_of v ≡ Failed fault → fault ≢ NoMemory → fault ≢ Truncated
-      → IsNoBundle A (limits_of u) bytes
-  failed_lem = fault_lem
 
 is_memory : (fault : StreamFault) → (fault ≡ NoMemory) ⊎ (fault ≢ NoMemory)
 is_memory NoMemory = inl refl
@@ -124,5 +112,5 @@ pub told_lem : {A : Type 0} (u v : Unbundler A) → HasOneVerdict A (limits_of u
 told_lem {A} u v verdict same bytes count holds fault failed whole place told memory other =
     elim (is_memory fault) [
       | inl is ↦ rw (memory is) tt
-      | inr is ↦ rw (other is) (refl, failed_lem u v verdict same bytes count holds fault failed is whole)
+      | inr is ↦ rw (other is) (refl, fault_lem u v verdict same bytes count holds fault failed is whole)
     ]

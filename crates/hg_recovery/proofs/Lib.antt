@@ -1,4 +1,7 @@
 mod Feeding
-mod Running
+mod Replaying
 mod Stops
 mod Folders
+mod Taking
+mod Next
+mod Following

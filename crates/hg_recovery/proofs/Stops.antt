@@ -19,31 +19,25 @@ use Rattle.hg_recovery.specs.Opening.{StopsRead, empty_repository, head_of, setu
 use Rattle.hg_recovery.specs.Replays.{IsUnrun, Replays, ReplaysOne}
 use Rattle.hg_recovery.specs.declared.opening.OpeningFault.TheVariants.{Store}
 use Rattle.hg_recovery.specs.declared.restore.RestoreFault.{RestoreFault}
-use Rattle.hg_recovery.proofs.Running.{join_lem}
+use Rattle.hg_recovery.proofs.Replaying.{join_lem}
 
 -- the records so far were run, and one more
 pub ran_more : {A : Type 0} (first mid last : RepositoryOf A) (records grown : List Entry) (entry : Entry)
-    (bundle : List ℕ) → grown ≡ records ++ entry ∷ [] → bundle ≡ entry.bundle
-    → Replays standard_limits first records mid → ReplaysOne standard_limits mid bundle last
-    → Replays standard_limits first grown last
-ran_more {A} first mid last records grown entry bundle is held ran one =
+    → grown ≡ records ++ entry ∷ [] → Replays standard_limits first records mid
+    → ReplaysOne standard_limits mid entry.bundle last → Replays standard_limits first grown last
+ran_more {A} first mid last records grown entry is ran one =
     subst (λ (rs : List Entry). Replays standard_limits first rs last) (sym is)
-    (join_lem standard_limits first mid last records (entry ∷ []) ran (
-      last,
-      subst (λ (l : List ℕ). ReplaysOne standard_limits mid l last) held one,
-      refl,
-    ))
+    (join_lem standard_limits first mid last records (entry ∷ []) ran (last, one, refl))
 
 -- the last of the records that were read was not run
 pub stops_read : (A : Type 0) (publishing : Bool) (identity : List ℕ) (records grown : List Entry) (entry : Entry)
-    (bundle bytes : List ℕ) (last : RepositoryOf A) (place : ℕ) (fault told : RestoreFault)
+    (bytes : List ℕ) (last : RepositoryOf A) (place : ℕ) (fault : RestoreFault)
     → IsHead (head_of publishing identity) → AllByRecursion (IsRecord Second) grown
     → bytes ≡ stored (head_of publishing identity) grown ++ [] → grown ≡ records ++ entry ∷ []
-    → bundle ≡ entry.bundle → place ≡ length records
-    → Replays standard_limits (empty_repository (setup_for publishing)) records last
-    → IsUnrun fault place standard_limits last bundle → fault ≡ told → StopsRead A publishing bytes told
-stops_read A publishing identity records grown entry bundle bytes last place fault told allowed each is grown_is held
-    count ran unrun same = record {
+    → place ≡ length records → Replays standard_limits (empty_repository (setup_for publishing)) records last
+    → IsUnrun fault place standard_limits last entry.bundle → StopsRead A publishing bytes fault
+stops_read A publishing identity records grown entry bytes last place fault allowed each is grown_is count ran unrun =
+    record {
       identity = identity;
       records = grown;
       allowed = allowed;
@@ -59,8 +53,7 @@ stops_read A publishing identity records grown entry bundle bytes last place fau
               ∙ get_or_push records entry entry place (sym count));
           ran = subst (λ (rs : List Entry). Replays standard_limits (empty_repository (setup_for publishing)) rs last)
               (sym (ap (take place) grown_is ∙ take_at records (entry ∷ []) place (sym count))) ran;
-          unrun = subst (λ (f : RestoreFault). IsUnrun f place standard_limits last entry.bundle) same
-              (subst (IsUnrun fault place standard_limits last) held unrun);
+          unrun = unrun;
         },
       );
     }

@@ -13,7 +13,12 @@
 
 pub mod laws;
 mod opening;
+mod record;
 mod restore;
+mod running;
+mod standby;
 
 pub use opening::{IfMissing, OpeningFault, Recovered, empty_repository, recover_store};
 pub use restore::{RestoreFault, record_parts, replay_record, replay_records};
+pub use running::run_next;
+pub use standby::Standby;

@@ -11,7 +11,8 @@ ghost use Rattle.hg_recovery.specs.Opening.{IsRecovered, StopsRead};
 ghost use Rattle.hg_types.specs.Limits.{IsAllowed};
 ghost use Rattle.hg_recovery.specs.declared.opening.OpeningFault.TheVariants.{Restore as unrestored, Store as no_store};
 
-use crate::restore::{RestoreFault, replay_record};
+use crate::restore::RestoreFault;
+use crate::running::run_next;
 use hg_repo::Repo;
 use hg_store::{
     Calls, Device, DeviceError, HostFile, Log, NotedRecords, Opened, Opening, ReadFault,
@@ -161,7 +162,7 @@ pub fn recover_store<R: Files<File = File>>(
 }
 
 /// How a server is set up that publishes, or does not.
-fn setup_for(publishing: bool) -> Setup
+pub(crate) fn setup_for(publishing: bool) -> Setup
     ensures { result ≡ setup_for publishing }
 {
     Setup {
@@ -255,11 +256,10 @@ fn run_records(
     ensures same { ⟦<HostFile as Calls>⟧.history opening.new.calls ≡ ⟦<HostFile as Calls>⟧.history opening.old.calls }
 {
     let mut repo = empty_repository(alloc, state, &setup_for(publishing));
-    for place in 0..usize::MAX {
-        if !opening.read_next()? {
+    for _ in 0..usize::MAX {
+        if !run_next(alloc, &mut repo, opening)? {
             return Ok(repo);
         }
-        replay_record(alloc, &mut repo, place, opening.bundle())?;
     }
     Err(OpeningFault::Store(StoreFault::from(DeviceError::Failed)))
 }

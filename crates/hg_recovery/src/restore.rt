@@ -10,11 +10,10 @@ ghost use Rattle.hg_parts.specs.declared.refusal.Refusal.{Refusal as AnyRefusal}
 ghost use Rattle.hg_recovery.specs.declared.restore.RestoreFault.TheVariants.{NoMemory as OutOfMemory};
 ghost use Rattle.hg_recovery.specs.Replays.{IsUnread, IsUnrun, Replays, ReplaysOne, StopsAt};
 
+use crate::record::RecordIn;
 use hg_push::laws::memory_refuses_no_part;
 use hg_repo::{Refusal, Repo, Source};
-use hg_store::Entry;
-use hg_stream::laws::streams_have_one_verdict;
-use hg_stream::{State, StreamFault, Unbundler, all_parts};
+use hg_store::{BundleTaker, Entry};
 use hg_types::{Limits, NoMemory, Part};
 use std::alloc::Allocator;
 use thiserror::Error;
@@ -93,15 +92,13 @@ pub fn record_parts<A: Allocator + Copy>(
     ensures ok { IfOk result (λ parts. IsBundle limits bytes.now parts.items) }
     ensures err { IfErr result (λ fault. IsUnread A fault place limits bytes.now) }
 {
-    let mut bundle = Unbundler::new(alloc, limits);
-    if let Err(fault) = feed_whole(&mut bundle, place, bytes) {
-        return Err(fault);
-    }
-    Ok(all_parts(alloc, &mut bundle)?)
+    let mut record = RecordIn::new(alloc, limits);
+    record.take(bytes);
+    record.into_parts(alloc, place)
 }
 
 /// Runs the parts of the record at a place as a push.
-fn run_parts<A: Allocator + Copy>(
+pub(crate) fn run_parts<A: Allocator + Copy>(
     repo: &mut Repo<A>,
     place: usize,
     parts: &[Part<A>],
@@ -130,42 +127,5 @@ fn refused_fault<A: Allocator>(place: usize, refusal: &Refusal<A>) -> RestoreFau
     match refusal {
         Refusal::NoMemory => RestoreFault::NoMemory,
         _ => RestoreFault::Refused(place),
-    }
-}
-
-/// Feeds a whole bundle, and nothing after it.
-fn feed_whole<A: Allocator + Copy>(
-    bundle: &mut Unbundler<A>,
-    place: usize,
-    bytes: &[u8],
-) -> Result<(), RestoreFault>
-    requires empty { HoldsBundle bundle.old [] [] }
-    requires reading { state_of bundle.old ≡ Reading }
-    ensures ok { OnOk result (IsBundle (limits_of bundle.old) bytes.now (ready_of bundle.new)) }
-    ensures err { IfErr result (λ fault. IsUnread A fault place (limits_of bundle.old) bytes.now) }
-{
-    // so bytes that are a bundle are reported as no fault
-    streams_have_one_verdict::<A>();
-    let count = match bundle.feed(bytes) {
-        Ok(count) => count,
-        Err(fault) => return Err(stream_fault(place, fault)),
-    };
-    if count < bytes.len() {
-        return Err(RestoreFault::NoBundle(place));
-    }
-    match bundle.state() {
-        State::Ended => Ok(()),
-        _ => Err(RestoreFault::NoBundle(place)),
-    }
-}
-
-/// What a fault of a record's bytes is reported as.
-fn stream_fault(place: usize, fault: StreamFault) -> RestoreFault
-    ensures memory { fault ≡ StreamFault.NoMemory → result ≡ RestoreFault.NoMemory }
-    ensures other { fault ≢ StreamFault.NoMemory → result ≡ RestoreFault.NoBundle place }
-{
-    match fault {
-        StreamFault::NoMemory => RestoreFault::NoMemory,
-        _ => RestoreFault::NoBundle(place),
     }
 }

@@ -6,8 +6,8 @@ ghost use Rattle.hg_store.specs.Records.{IsSized};
 
 use crate::tests::{ONE, TWO, UNKNOWN};
 use hg_help_store_tests::folder::open_store;
-use hg_recovery::{IfMissing, OpeningFault, RestoreFault, recover_store};
-use hg_store::{Sealed, Setup, Stamp, StoreFault, StoreFolder, create_store};
+use hg_recovery::{IfMissing, OpeningFault, RestoreFault, Standby, recover_store};
+use hg_store::{Hold, Sealed, Setup, Stamp, StoreFault, StoreFolder, create_store};
 use hg_types::{Limits, NoMemory, Seq};
 use std::alloc::Global;
 use std::fs;
@@ -96,5 +96,70 @@ fn a_store_that_is_started(rt: HostRuntime) -> Result<(), Fail> {
     fs::remove_dir_all(&rt, folder)?;
     let missing = OpeningFault::Store(StoreFault::Missing);
     assert!(rt; opened(&rt, state, folder) == Err(missing));
+    Ok(())
+}
+
+/// Follows a store to its end.
+fn follow_on(alloc: Global, standby: &mut Standby) -> Result<(), OpeningFault> {
+    for _ in 0..100 {
+        if !standby.follow(alloc)? {
+            return Ok(());
+        }
+    }
+    Ok(())
+}
+
+// A marker is followed while another process holds the store, which then gets a second one before it lets go. Result: one
+// marker, and it waits; two records and two markers at the takeover. Where the first gate is shut meanwhile none is
+// given; where the second is no bundle, it is refused, and the file is as it was.
+#[test]
+fn a_store_that_is_taken_over(rt: HostRuntime) -> Result<(), Fail> {
+    let state = RandomState::new(&rt)?;
+    let alloc = rt.alloc();
+    let folder = "hg_recovery_taken_over";
+    let name = "hg_recovery_taken_over/pushes";
+    for case in 0..3 {
+        let file = fill(
+            &rt,
+            folder,
+            name,
+            &ONE,
+            if case == 2 { &UNKNOWN } else { &TWO },
+        )?;
+        // the second one comes later
+        let mut first = file.to_vec(alloc)?;
+        let gate = 54 + 34 + ONE.len();
+        if let Some(byte) = first.get_mut(gate) {
+            *byte = 0;
+        }
+        fs::write(&rt, name, first.as_slice())?;
+        let mut place = StoreFolder::new(&rt, folder);
+        let mut standby = Standby::begin(alloc, state, &mut place, false)?;
+        follow_on(alloc, &mut standby)?;
+        assert_eq!(rt; standby.repo.markers().len(), 1);
+        let mut left = file.to_vec(alloc)?;
+        if case == 1 {
+            if let Some(byte) = left.get_mut(54) {
+                *byte = 0;
+            }
+        }
+        fs::write(&rt, name, left.as_slice())?;
+        assert!(rt; standby.hold(alloc, &mut place) == Ok(Hold::Held));
+        let taken = standby.take_over(alloc, &mut place);
+        match taken {
+            Ok(Some(recovered)) => {
+                assert_eq!(rt; case, 0);
+                assert_eq!(rt; recovered.stored, 2);
+                assert_eq!(rt; recovered.repo.markers().len(), 2);
+            }
+            Ok(None) => assert_eq!(rt; case, 1),
+            Err(fault) => {
+                assert_eq!(rt; case, 2);
+                assert!(rt; fault == OpeningFault::Restore(RestoreFault::Refused(1)));
+                assert_eq!(rt; fs::read(&rt, name)?.as_slice(), file.as_slice());
+            }
+        }
+    }
+    fs::remove_dir_all(&rt, folder)?;
     Ok(())
 }

@@ -103,6 +103,15 @@ length-frame version before r =
       length-label version r,
     )
 
+-- a record that was put after some bytes, part by part
+pub frame_put : (version : Version) (before : List ℕ) (r : Entry) (out grown name digest bundle : List ℕ) (numbers : Numbers)
+    → numbers ≡ numbers_of r → name ≡ r.stamp.name → digest ≡ digest_of version before r → bundle ≡ r.bundle
+    → grown ≡ out ++ (open_gate version ∷ (numbers_bytes version numbers ++ name) ++ (digest ++ bundle))
+    → grown ≡ out ++ frame version before r
+frame_put version before r out grown name digest bundle numbers numbers_so name_so digest_so bundle_so is =
+    is
+    ∙ (λ i. out ++ (open_gate version ∷ (numbers_bytes version (numbers_so i) ++ name_so i) ++ (digest_so i ++ bundle_so i)))
+
 -- the frame and what follows it, by its fields
 pub frame_fields : (version : Version) (before : List ℕ) (r : Entry) (x : List ℕ)
     → frame version before r ++ x ≡ open_gate version ∷ label version r

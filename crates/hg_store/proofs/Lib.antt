@@ -17,3 +17,5 @@ mod Brought
 mod AtRest
 mod Tails
 mod Again
+mod Streamed
+mod Followed

@@ -1,84 +1,17 @@
 -- A store that is read from its first byte on, one record after the other.
-use Rattle.std.proofs.Common.{◌≡◌, ◌≢◌, ◌⊎◌, inl, inr, ℕ, ◌+◌, ◌-◌, ◌<◌, ◌≤◌, ◌^◌, List, [], ◌∷◌, ◌++◌, length, drop}
+use Rattle.std.proofs.Common.{◌≡◌, ◌⊎◌, inl, inr, ℕ, ◌+◌, ◌≤◌, List, [], ◌∷◌, ◌++◌, length}
 use Rattle.std.proofs.Common.{refl, sym, ap, ◌∙◌, subst, arith, append_assoc, length-append}
-use Rattle.std.proofs.lemmas.List.{append-nil, drop_at}
+use Rattle.std.proofs.lemmas.List.{append-nil}
 use Rattle.std.specs.List.{AllByRecursion}
 use Rattle.hg_store.specs.Entries.{Entry}
-use Rattle.hg_store.specs.Files.{IsDamagedStore, IsOldStore, IsStore, IsTornStore, StandsFor, digest_behind, stored}
+use Rattle.hg_store.specs.Files.{IsDamagedStore, IsOldStore, IsStore, IsTornStore, digest_behind, stored}
 use Rattle.hg_store.specs.Head.{IsHead, first_digest, head_bytes, version_of}
-use Rattle.hg_store.specs.Records.{AreNumbers, IsDamaged, IsEnd, IsRecord, IsTorn, digest_of, frame, frames, label}
-use Rattle.hg_store.specs.Records.{last_digest, numbers_bytes, numbers_of, over, shut}
+use Rattle.hg_store.specs.Records.{IsDamaged, IsEnd, IsRecord, IsTorn, digest_of, frame, frames}
+use Rattle.hg_store.specs.Records.{last_digest, over, shut}
 use Rattle.hg_store.specs.declared.head.Head.{Head}
 use Rattle.hg_store.specs.declared.head.Version.{Version}
-use Rattle.hg_store.specs.declared.head.Version.TheVariants.{First, Second}
-use Rattle.hg_store.specs.declared.numbers.Numbers.{Numbers}
-use Rattle.hg_store.proofs.Frames.{frames-push, last_digest-push, length-frame, length-numbers, numbers_are}
-
--- ---- a frame
-
-module _ (before front more after : List ℕ) (found : Entry) (is : IsRecord Second found)
-    (spelled : front ++ more ≡ frame Second before found ++ after) where
-  size : length front + length more ≡ 34 + length found.stamp.name + length found.bundle + length after
-  size = omega (
-    arith,
-    ap length spelled,
-    length-append front more,
-    length-append (frame Second before found) after,
-    length-frame Second before found,
-  )
-
-  -- fewer bytes are no frame
-  pub too_few : length front < 14 → length more ≤ 0 → after ≡ []
-  too_few few none = absurd (omega (arith, size, few, none))
-
-  module _ (gate : ℕ) (behind : List ℕ) (begins : front ≡ gate ∷ behind) where
-    both : gate ∷ (behind ++ more) ≡ frame Second before found ++ after
-    both = ap (λ (l : List ℕ). l ++ more) (sym begins) ∙ spelled
-
-    pub gate_is : gate ≡ 255
-    gate_is = let same = both in cc
-
-    behind_is : behind ++ more ≡ label Second found ++ ((digest_of Second before found ++ found.bundle) ++ after)
-    behind_is =
-        ap (drop 1) both
-        ∙ append_assoc (label Second found) (digest_of Second before found ++ found.bundle) after
-
-    -- as many bytes as its numbers say are all of it
-    pub no_more : (numbers : Numbers) (rest : List ℕ) → AreNumbers Second numbers
-        → behind ≡ numbers_bytes Second numbers ++ rest → length front ≤ 14
-        → length more ≤ numbers.named + 20 + numbers.size → after ≡ []
-    no_more numbers rest are told short few =
-        let one = numbers_are Second numbers (numbers_of found) (rest ++ more)
-        (found.stamp.name ++ ((digest_of Second before found ++ found.bundle) ++ after)) are is
-        (sym (append_assoc (numbers_bytes Second numbers) rest more) ∙ ap (λ (l : List ℕ). l ++ more) (sym told)
-        ∙ behind_is ∙ append_assoc (numbers_bytes Second (numbers_of found)) found.stamp.name
-        ((digest_of Second before found ++ found.bundle) ++ after)) in
-        none after (omega (
-          arith,
-          size,
-          short,
-          few,
-          ap (λ (n : Numbers). n.named) one.0,
-          ap (λ (n : Numbers). n.size) one.0,
-        ))
-      where
-        none : (l : List ℕ) → length l ≤ 0 → l ≡ []
-        none [] empty = refl
-        none (x ∷ l) empty = absurd (omega (arith, empty))
-
--- its bundle stands at its end
-pub bundle_at : (before : List ℕ) (found : Entry) (items after : List ℕ) (size at : ℕ)
-    → items ≡ frame Second before found ++ after → after ≡ [] → size ≡ length found.bundle
-    → at ≡ length items - size → (found.bundle ≡ drop at items) × (at ≤ length items)
-bundle_at before found items after size at is none size_is at_is =
-    let front : List ℕ = 255 ∷ (label Second found ++ digest_of Second before found) in
-    let shown : items ≡ front ++ found.bundle = is
-    ∙ ap (λ (l : List ℕ). frame Second before found ++ l) none ∙ append-nil (frame Second before found)
-    ∙ ap (λ (l : List ℕ). 255 ∷ l)
-    (sym (append_assoc (label Second found) (digest_of Second before found) found.bundle)) in
-    let long : length items ≡ length front + length found.bundle =
-    ap length shown ∙ length-append front found.bundle in
-    (sym (ap (drop at) shown ∙ drop_at front found.bundle at (omega (arith, long, size_is, at_is))), omega (arith, at_is))
+use Rattle.hg_store.specs.declared.head.Version.TheVariants.{First}
+use Rattle.hg_store.proofs.Frames.{frames-push, last_digest-push, length-frame}
 
 -- ---- what was read is a store
 

@@ -10,7 +10,8 @@ use Rattle.hg_store.specs.Device.{Elapses, Only}
 use Rattle.hg_store.specs.code.Fronts.{Begin, Begins, KeepsFront}
 use Rattle.hg_store.specs.Records.{IsRecord, digest_of, frame, frames, last_digest, numbers_bytes, numbers_of}
 use Rattle.hg_store.specs.Records.{open_gate}
-use Rattle.hg_store.proofs.Frames.{batch_more, each-push, frames-append, length-frame}
+use Rattle.hg_store.specs.code.Batches.{ungated}
+use Rattle.hg_store.proofs.Frames.{batch_more, each-push, frames-append, length-frame, some_bytes}
 use Rattle.hg_store.proofs.Moments.{started, goes_on, one_behind}
 
 module _ {D : Type 0} (moment : D → ℕ) (left_since : D → ℕ → List ℕ → Type 0) (may_leave : D → List ℕ
@@ -122,3 +123,34 @@ frames_grow before batch i =
     ∙ ap length (frames-append Second before first (drop i batch))
     ∙ length-append (frames Second before first) (frames Second (last_digest Second before first) (drop i batch)) in
     omega (arith, both)
+
+-- the bytes of the records so far, with one more
+pub size_more : (before : List ℕ) (batch : List Entry) (i size grown : ℕ) (r : Entry) → i < length batch
+    → r ≡ get_or batch i r → size ≡ length (frames Second before (take i batch))
+    → grown ≡ size + (34 + length r.stamp.name + length r.bundle)
+    → grown ≡ length (frames Second before (take (i + 1) batch))
+size_more before batch i size grown r lt is size_is grown_is =
+    let so_far : List ℕ = frames Second before (take i batch) in
+    let digest : List ℕ = last_digest Second before (take i batch) in
+    let more = batch_more Second before batch i so_far (so_far ++ frame Second digest r) digest _ r lt is refl refl
+    refl refl in
+    omega (
+      arith,
+      size_is,
+      grown_is,
+      ap length more.0,
+      length-append so_far (frame Second digest r),
+      length-frame Second digest r,
+    )
+
+-- The records of a batch in a buffer with a shut gate after them, but the gate of the first.
+pub ungated_is : (before : List ℕ) (batch : List Entry) (bytes behind : List ℕ) → 0 < length batch
+    → bytes ≡ frames Second before batch ++ 0 ∷ [] → behind ≡ drop 1 bytes
+    → (behind ≡ ungated Second before batch) × (1 ≤ length behind)
+ungated_is before batch bytes behind some bytes_is behind_is =
+    let all : List ℕ = frames Second before batch in
+    let enough : 1 ≤ length all = some_bytes Second before batch some in
+    let same : behind ≡ drop 1 all ++ 0 ∷ [] = behind_is ∙ ap (drop 1) bytes_is ∙ drop-append-le 1 all (0 ∷ []) enough in (
+      same,
+      omega (arith, ap length same, length-append (drop 1 all) (0 ∷ [])),
+    )

@@ -47,10 +47,22 @@ tail_kept place bytes = (8, place, bytes, true)
 abbrev pub came : List ℕ → Event
 came bytes = (9, 0, bytes, true)
 
+-- of a file that is read, it is read once more from that place on
+abbrev pub went_back : ℕ → Event
+went_back place = (10, place, [], true)
+
+-- the file was held against other processes, synced, and what the system kept of it was dropped
+abbrev pub was_held : Event
+was_held = (11, 0, [], true)
+
+-- of a file that is held, these bytes were read that stand from that place on, beside those that were drawn
+abbrev pub looked : ℕ → List ℕ → Event
+looked at bytes = (12, at, bytes, true)
+
 -- the bytes that came of a file by these pieces, of which the newest comes first
 abbrev pub bytes_in : List Event → List ℕ
 bytes_in [] = []
-bytes_in (piece ∷ earlier) = bytes_in earlier ++ piece.2
+bytes_in (piece ∷ earlier) = if piece.0 == 10 then take piece.1 (bytes_in earlier) else bytes_in earlier ++ piece.2
 
 -- A file gave so many bytes more than were drawn from it, or fewer, and then its end was met. They were appended to
 -- others.

@@ -9,6 +9,7 @@ pub mod Calls
 pub mod History
 pub mod FileLaws
 pub mod Openings
+pub mod Standbys
 pub mod Folders
 pub mod Tails
 pub mod Again

@@ -1,5 +1,5 @@
 -- What was found where a store in a file is opened, and why one is not opened.
-use Rattle.std.specs.Prelude.{ℕ, ◌≡◌, ◌≢◌, ◌⊎◌, ◌+◌, ◌≤◌, List, [], ◌∷◌, ◌++◌, Bool, true, false, drop, length, ⊤}
+use Rattle.std.specs.Prelude.{ℕ, ◌≡◌, ◌≢◌, ◌⊎◌, ◌+◌, List, [], ◌∷◌, ◌++◌, Bool, true, false, length, ⊤}
 use Rattle.hg_store.specs.declared.head.Head.{Head}
 use Rattle.hg_store.specs.declared.head.Setup.{Setup}
 use Rattle.hg_store.specs.declared.opening.RecoverFault.TheVariants.{Read, OldVersion, Torn, Tail, Device}
@@ -76,13 +76,16 @@ pub record HasEnded {C A : Type 0} (drawn : C → List ℕ) (setup : Setup) (ope
   pub all : HasRead drawn setup opening.frame.items opening
   pub ends : IsEnd opening.frame.items
 
--- One more record was read, with the bundle that is held.
-pub record IsNextOf {C A : Type 0} (entry : Entry) (old new : Opening C A) : Type 0 where
+-- One more record was read, and its bundle was taken.
+pub record IsNextOf {C A T : Type 0} (took : T → List ℕ → T → Type 0) (before after : T) (entry : Entry)
+    (old new : Opening C A) : Type 0 where
   pub more : new.records.entries ≡ old.records.entries ++ entry ∷ []
-  pub held : entry.bundle ≡ drop new.bundle new.frame.items
-  pub within : new.bundle ≤ length new.frame.items
+  pub taken : (first : T) (bytes : List ℕ) → took first bytes before → took first (bytes ++ entry.bundle) after
 
--- a record was read, or there is none
-abbrev pub HasNext : {C A : Type 0} → (C → List ℕ) → Setup → Bool → Opening C A → Opening C A → Type 0
-HasNext drawn setup true old new = HasRead drawn setup [] new × ((entry : Entry) × IsNextOf entry old new)
-HasNext drawn setup false old new = HasEnded drawn setup new × (new.records.entries ≡ old.records.entries)
+-- a record was read and its bundle taken, or there is none, and nothing was taken
+abbrev pub HasNext : {C A T : Type 0} → (C → List ℕ) → (T → List ℕ → T → Type 0) → T → T → Setup → Bool → Opening C A
+    → Opening C A → Type 0
+HasNext drawn took before after setup true old new =
+    HasRead drawn setup [] new × ((entry : Entry) × IsNextOf took before after entry old new)
+HasNext drawn took before after setup false old new =
+    HasEnded drawn setup new × (new.records.entries ≡ old.records.entries) × (after ≡ before)

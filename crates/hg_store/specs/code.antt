@@ -3,3 +3,4 @@ pub mod Held
 pub mod Steps
 pub mod Batches
 pub mod Heads
+pub mod Headings

@@ -1,7 +1,7 @@
 //! What is asked of a file of the system: that each call on it is noted with its answer.
 
-ghost use Rattle.std.specs.Prelude.{◌≡◌, [], ◌∷◌, Bool, List, ℕ, OnOk, is_ok, true};
-ghost use Rattle.hg_store.specs.Calls.{Event, ReadsOn, began, gave_up, shortened, synced, wrote};
+ghost use Rattle.std.specs.Prelude.{◌≡◌, [], ◌∷◌, ◌++◌, Bool, List, ℕ, MatchResult, OnOk, is_ok, take, true};
+ghost use Rattle.hg_store.specs.Calls.{Event, ReadsOn, began, gave_up, looked, shortened, synced, wrote};
 
 use crate::device::DeviceError;
 use std::alloc::Allocator;
@@ -35,6 +35,23 @@ pub trait Calls: Drop {
         ensures same { history self.new ≡ history self.old }
         ensures read { OnOk result (ReadsOn count bytes.old.items bytes.new.items (drawn self.old) (drawn self.new)
             (is_over self.new)) };
+
+    /// Goes back to a place: what follows it is read once more, as it is then.
+    fn go_back(&mut self, place: usize) -> Result<(), DeviceError>
+        ensures same { history self.new ≡ history self.old }
+        ensures drawn { OnOk result (drawn self.new ≡ take place (drawn self.old)) };
+
+    /// Looks at so many bytes that stand from a place on, or at those that there are: they are appended, and reading
+    /// goes on where it was.
+    fn look<A: Allocator>(
+        &mut self,
+        at: usize,
+        count: usize,
+        bytes: &mut Vec<u8, A>,
+    ) -> Result<(), DeviceError>
+        ensures same { OnOk result (drawn self.new ≡ drawn self.old) }
+        ensures looked { MatchResult result (λ _. (more : List ℕ) × (bytes.new.items ≡ bytes.old.items ++ more)
+            × (history self.new ≡ looked at more ∷ history self.old)) (λ _. history self.new ≡ history self.old) };
 
     /// Makes no call, and notes that the file was read from its first byte to its end.
     fn note_read(&mut self)

@@ -4,6 +4,7 @@ ghost use Rattle.std.specs.Prelude.{◌≡◌, ◌<◌, ◌^◌, [], IfOk, lengt
 ghost use Rattle.hg_store.specs.Entries.{IsStamp};
 ghost use Rattle.hg_store.specs.Records.{IsSized, numbers_of};
 
+use crate::history::History;
 use crate::numbers::Numbers;
 use hg_types::{NoMemory, Seq};
 use std::alloc::{Allocator, Global};
@@ -14,7 +15,7 @@ use std::marker::Model;
 #[derive(Drop)]
 pub struct Stamp<A: Allocator = Global> {
     time: u64,
-    name: Seq<u8, A>,
+    name: Vec<u8, A>,
 }
 
 impl<A: Allocator> Model for Stamp<A> {
@@ -22,9 +23,9 @@ impl<A: Allocator> Model for Stamp<A> {
 
     ghost Value = { AnyStamp };
 
-    ghost view = { λ s. record { time = s.time; name = s.name } };
+    ghost view = { λ s. record { time = s.time; name = s.name.items } };
 
-    ghost invariant = { λ s. IsStamp (record { time = s.time; name = s.name }) };
+    ghost invariant = { λ s. IsStamp (record { time = s.time; name = s.name.items }) };
 }
 
 impl<A: Allocator> Stamp<A> {
@@ -34,6 +35,7 @@ impl<A: Allocator> Stamp<A> {
         ensures time { result.time ≡ time }
         ensures name { result.name ≡ name }
     {
+        let name = name.into_vec();
         Stamp { time, name }
     }
 
@@ -44,7 +46,7 @@ impl<A: Allocator> Stamp<A> {
     {
         Stamp {
             time,
-            name: Seq::new(alloc),
+            name: Vec::new(alloc),
         }
     }
 
@@ -60,6 +62,11 @@ impl<A: Allocator> Stamp<A> {
         ensures { result.now ≡ self.now.name }
     {
         self.name.as_slice()
+    }
+
+    /// What gives memory for the name.
+    pub(crate) fn allocator(&self) -> &A {
+        self.name.allocator()
     }
 
     /// The numbers of a record with that stamp, whose bundle has so many bytes.
@@ -161,4 +168,25 @@ impl<'a> Standing<'a> {
         let bundle = Seq::copy_of(alloc, self.bundle)?;
         Ok(Entry::new(Stamp::new(self.time, name), bundle))
     }
+}
+
+/// A record that was read in pieces, and does not stand in memory.
+#[derive(Drop)]
+pub struct Passed<'a> {
+    pub time: u64,
+    pub name: &'a [u8],
+    /// What came of its bundle, which only contracts see.
+    pub pieces: History,
+}
+
+impl<'a> Model for Passed<'a> {
+    ghost use Rattle.hg_store.specs.Calls.{bytes_in};
+    ghost use Rattle.hg_store.specs.Entries.{Entry as AnyEntry};
+
+    ghost Value = { AnyEntry };
+
+    ghost view = { λ s. record {
+      stamp = record { time = s.time; name = s.name.now };
+      bundle = bytes_in s.pieces.events;
+    } };
 }

@@ -4,13 +4,15 @@ ghost use Rattle.std.specs.Prelude.{◌≡◌, ◌⊎◌, [], ◌∷◌, IfErr, 
 ghost use Rattle.hg_store.specs.Calls.{renewed};
 ghost use Rattle.hg_store.specs.Folders.{IsMadeAtMost, IsMissedFor};
 ghost use Rattle.hg_store.specs.Openings.{HasRead, IsOfFolder, IsUnopened};
+ghost use Rattle.hg_store.specs.Standbys.{IsAskedFor};
+ghost use Rattle.hg_store.specs.declared.head.Setup.{Setup as AnySetup};
 
 use crate::calls::Calls;
 use crate::device::DeviceError;
 use crate::front::Opening;
 use crate::head::{Head, Setup};
 use crate::history::Call;
-use crate::host::{HostFile, device_error};
+use crate::host::{Hold, HostFile, device_error};
 use crate::names::StoreFolder;
 use crate::place::create_file;
 use crate::placed::{Access, PlacedFile, hold, open_plain, path_in, sync_folder};
@@ -108,6 +110,54 @@ fn random_bytes<R: Files<File = File>>(files: &R) -> io::Result<[u8; 16]>
     Ok(bytes)
 }
 
+/// Begins to read the store in a folder, which another process may hold, and does not hold it. Nothing is synced.
+pub fn follow_store<R: Files<File = File>, A: Allocator + Copy>(
+    alloc: A,
+    folder: &mut StoreFolder<'_, R>,
+    setup: &Setup,
+) -> Result<Opening<HostFile, A>, StoreFault>
+    ensures read { IfOk result (HasRead ⟦<HostFile as Calls>⟧.drawn setup.now []) }
+    ensures none { IfOk result (λ opening. (opening.records.entries ≡ [])
+        × (⟦<HostFile as Calls>⟧.history opening.calls ≡ [])) }
+    ensures err { IfErr result (λ fault. IsOfFolder fault ⊎ ((read : HostFile)
+        × (⟦<HostFile as Calls>⟧.history read ≡ [])
+        × IsUnopened fault setup.now (⟦<HostFile as Calls>⟧.drawn read) [] (⟦<HostFile as Calls>⟧.history read))) }
+    ensures names { folder.new ≡ folder.old }
+{
+    let file = open_unheld(folder.files(), alloc, folder.path())?;
+    match Opening::begin(alloc, HostFile::followed(file), setup) {
+        Ok(opening) => Ok(opening),
+        Err(left) => Err(left.fault),
+    }
+}
+
+/// Asks for a store that is followed, and holds it against other processes where it is the file of its name still, and
+/// has all that was read of it. Its folder is synced then, as where a store is begun.
+pub fn hold_store<R: Files<File = File>, A: Allocator + Copy>(
+    alloc: A,
+    folder: &mut StoreFolder<'_, R>,
+    opening: &mut Opening<HostFile, A>,
+) -> Result<Hold, StoreFault>
+    ensures read { (setup : AnySetup) → HasRead ⟦<HostFile as Calls>⟧.drawn setup [] opening.old →
+        HasRead ⟦<HostFile as Calls>⟧.drawn setup [] opening.new }
+    ensures records { (opening.new.records ≡ opening.old.records)
+        × (opening.new.identity ≡ opening.old.identity) }
+    ensures held { IfOk result (λ hold. IsAskedFor hold (⟦<HostFile as Calls>⟧.history opening.old.calls)
+        (⟦<HostFile as Calls>⟧.history opening.new.calls)) }
+    ensures err { IfErr result IsOfFolder }
+    ensures names { folder.new ≡ folder.old }
+{
+    let name = path_in(alloc, folder.path(), NAME)?;
+    let hold = match opening.calls.hold(folder.files(), name.as_str()) {
+        Ok(hold) => hold,
+        Err(error) => return Err(store_fault(error)),
+    };
+    if hold == Hold::Held {
+        sync_names(folder.files(), alloc, folder.path())?;
+    }
+    Ok(hold)
+}
+
 /// The file of the store, which is held. Where there is none, that is noted.
 fn find<R: Files<File = File>, A: Allocator + Copy>(
     alloc: A,
@@ -181,6 +231,22 @@ fn sync_names<R: Files<File = File>, A: Allocator + Copy>(
     let above = path_in(alloc, folder, "..")?;
     let _above = sync_folder(files, above.as_str());
     sync_folder(files, folder).map_err(device_error)
+}
+
+/// Opens the file of the store in a folder for reading and writing, and does not hold it.
+fn open_unheld<R: Files<File = File>, A: Allocator + Copy>(
+    files: &R,
+    alloc: A,
+    folder: &str,
+) -> Result<File, StoreFault>
+    ensures { IfErr result IsOfFolder }
+{
+    let name = path_in(alloc, folder, NAME)?;
+    match open_plain(files, Access::Change, name.as_str()) {
+        Ok(Some(file)) => Ok(file),
+        Ok(None) => Err(StoreFault::Linked),
+        Err(error) => Err(store_fault(error)),
+    }
 }
 
 /// Opens the file of the store in a folder for reading and writing, and holds it.

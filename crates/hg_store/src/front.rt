@@ -1,7 +1,7 @@
 //! A store in a file that is opened for more records: it is read from the front, one record after the other, in memory
 //! for one, and changed once all of it was read.
 
-ghost use Rattle.std.specs.Prelude.{◌≡◌, ◌≤◌, ◌<◌, ◌+◌, ◌∷◌, ◌++◌, ◌⊎◌, [], List, ℕ, IfErr, IfOk, OnOk, drop, length};
+ghost use Rattle.std.specs.Prelude.{◌≡◌, ◌≤◌, ◌+◌, ◌∷◌, ◌++◌, [], List, ℕ, IfErr, IfOk, IsErrOf, OnOk, length};
 ghost use Rattle.std.specs.Prelude.{MatchResult, true};
 ghost use Rattle.hg_store.specs.Again.{AreOpenedAfter};
 ghost use Rattle.hg_store.specs.Calls.{Continue, Event, began};
@@ -10,25 +10,28 @@ ghost use Rattle.hg_store.specs.Files.{digest_behind};
 ghost use Rattle.hg_store.specs.Head.{IsHead, head_bytes, head_for};
 ghost use Rattle.hg_store.specs.Log.{IsSettled, IsSettledAt};
 ghost use Rattle.hg_store.specs.Openings.{HasEnded, HasNext, HasRead, IsFound, IsUnopened};
-ghost use Rattle.hg_store.specs.Records.{IsEnd, IsRecord, frame};
+ghost use Rattle.hg_store.specs.Records.{IsEnd};
 ghost use Rattle.hg_store.specs.Tails.{IsKeptAtMost, LosesNothing};
 ghost use Rattle.hg_store.specs.code.Batches.{IsWhole};
 ghost use Rattle.hg_store.specs.declared.head.Head.{Head as AnyHead};
 ghost use Rattle.hg_store.specs.declared.head.Setup.{Setup as AnySetup};
-ghost use Rattle.hg_store.specs.declared.head.Version.TheVariants.{Second};
+ghost use Rattle.hg_store.specs.declared.opening.RecoverFault.TheVariants.{Read as unread, Torn as torn_behind};
+ghost use Rattle.hg_store.specs.declared.read.ReadFault.TheVariants.{Damaged as damaged_behind};
+ghost use Rattle.hg_store.specs.declared.start.StoreFault.TheVariants.{Recover};
 
+use crate::bundle::{BundleTaker, Passing, read_bundle};
 use crate::calls::Calls;
 use crate::device::{Device, DeviceError};
 use crate::file::StoreFile;
 use crate::gates::{add_gate, open_again};
-use crate::head::{FIRST, Head, IDENTITY, OPEN, Setup, Version, read_byte};
+use crate::head::{FIRST, Head, IDENTITY, Setup, Version};
+use crate::heading::{digest_with, heading_in, passed, read_heading};
 use crate::log::{Log, MOST_BYTES};
 use crate::noted::NotedRecords;
-use crate::numbers::{SECOND, read_numbers};
 use crate::opening::{RecoverFault, shut_gate};
 use crate::pieces::is_begun;
 use crate::read::ReadFault;
-use crate::record::{DIGEST, NoRecord, next_record};
+use crate::record::NoRecord;
 use crate::start::{Opened, StoreFault, Unopened, left_over};
 use crate::tail::{TailKeeper, keep_tail};
 use sha1::Sha1;
@@ -48,10 +51,10 @@ pub struct Opening<C: Calls, A: Allocator + Copy = Global> {
     pub stored: usize,
     /// Where the gates of the last of them stand.
     pub gates: Vec<usize, A>,
-    /// The record that was read last, as it stands in the file; or what stands there in the place of one.
+    /// The heading of the record that was read last; or what stands in the file in the place of one.
     pub frame: Vec<u8, A>,
-    /// Where in that its bundle begins.
-    pub bundle: usize,
+    /// The last piece of its bundle.
+    pub piece: Vec<u8, A>,
     /// The records, which only contracts see.
     pub records: NotedRecords,
 }
@@ -78,49 +81,51 @@ impl<C: Calls, A: Allocator + Copy> Opening<C, A> {
                 stored: 0,
                 gates: Vec::new(alloc),
                 frame,
-                bundle: 0,
+                piece: Vec::new(alloc),
                 records: NotedRecords::new(),
             }),
             Err(fault) => Err(left_over(fault, calls)),
         }
     }
 
-    /// Reads the next record, and says whether there is one. Its bundle is then the one of [`Opening::bundle`].
-    pub fn read_next(&mut self) -> Result<bool, StoreFault>
+    /// Reads the next record, and says whether there is one. The taker takes its bundle as it comes, and it is a record
+    /// only once this answers `true`: what was taken before that may be damage.
+    pub fn read_next<T: BundleTaker>(&mut self, taker: &mut T) -> Result<bool, StoreFault>
         requires { (setup : AnySetup) × HasRead C.Calls.drawn setup [] self.old }
         ensures read { (setup : AnySetup) → HasRead C.Calls.drawn setup [] self.old →
-            IfOk result (λ more. HasNext C.Calls.drawn setup more self.old self.new) }
+            IfOk result (λ more. HasNext C.Calls.drawn T.took taker.old taker.new setup more self.old self.new) }
         ensures err { (setup : AnySetup) → HasRead C.Calls.drawn setup [] self.old →
             IfErr result (λ fault. IsUnopened fault setup (C.Calls.drawn self.new.calls)
             (C.Calls.history self.old.calls) (C.Calls.history self.new.calls)) }
         ensures same { C.Calls.history self.new.calls ≡ C.Calls.history self.old.calls }
+        ensures name { self.new.identity ≡ self.old.identity }
+
+        // A record is torn where the file ends in it.
+        ensures torn { (whole : ℕ) → IsErrOf result (Recover (torn_behind whole)) →
+            C.Calls.is_over self.new.calls ≡ true }
     {
         if self.end >= MOST_BYTES {
             return Err(StoreFault::from(DeviceError::Full));
         }
-        read_frame(&mut self.calls, &mut self.frame)?;
-        match next_record(Version::Second, &mut self.digest, &self.frame) {
-            Ok((record, _behind)) => {
-                add_gate(&mut self.gates, self.end)?;
-                self.bundle = self.frame.len() - record.bundle.len();
-                self.end += self.frame.len();
-                self.stored += 1;
-                self.records = self.records.and(&record);
-                Ok(true)
-            }
-            Err(NoRecord::End) => Ok(false),
-            Err(NoRecord::Torn) => Err(StoreFault::Recover(RecoverFault::Torn(self.stored))),
-            Err(NoRecord::Damaged) => Err(StoreFault::from(ReadFault::Damaged(self.stored))),
-        }
-    }
-
-    /// The bundle of the record that was read last.
-    pub fn bundle(&self) -> &[u8]
-        requires { self.now.bundle ≤ length self.now.frame.items }
-        ensures { result.now ≡ drop self.now.bundle self.now.frame.items }
-    {
-        let (_front, bundle) = self.frame.split_at(self.bundle);
-        bundle
+        read_heading(&mut self.calls, &mut self.frame)?;
+        let heading = match heading_in(&self.frame) {
+            Ok(heading) => heading,
+            Err(NoRecord::End) => return Ok(false),
+            Err(NoRecord::Torn) => return Err(stop_fault(NoRecord::Torn, self.stored)),
+            Err(NoRecord::Damaged) => return Err(stop_fault(NoRecord::Damaged, self.stored)),
+        };
+        let size = heading.numbers.size as usize;
+        let bundle = read_bundle(&mut self.calls, size, &mut self.piece, taker)?;
+        let digest = match digest_with(&self.digest, &heading, &bundle) {
+            Ok(digest) => digest,
+            Err(stop) => return Err(stop_fault(stop, self.stored)),
+        };
+        add_gate(&mut self.gates, self.end)?;
+        self.records = self.records.and(&passed(&heading, bundle.pieces));
+        self.digest = digest;
+        self.end += self.frame.len() + bundle.len;
+        self.stored += 1;
+        Ok(true)
     }
 
     /// Opens the store, all records of which were read: what stands after them is read and kept, unless each byte of it
@@ -162,7 +167,7 @@ impl<C: Calls, A: Allocator + Copy> Opening<C, A> {
             stored,
             gates,
             frame,
-            bundle: _,
+            piece: _,
             records,
         } = self;
         let mut calls = calls;
@@ -323,37 +328,14 @@ fn read_front<C: Calls, A: Allocator>(
     }
 }
 
-/// Reads a record into the buffer, in the place of what stands in it, or what stands in the file in the place of one.
-fn read_frame<C: Calls, A: Allocator>(
-    calls: &mut C,
-    bytes: &mut Vec<u8, A>,
-) -> Result<(), DeviceError>
-    ensures read { OnOk result (C.Calls.drawn calls.new ≡ C.Calls.drawn calls.old ++ bytes.new.items) }
-    ensures same { C.Calls.history calls.new ≡ C.Calls.history calls.old }
-    ensures whole { OnOk result ((before after : List ℕ) (found : AnyEntry) → IsRecord Second found →
-        bytes.new.items ≡ frame Second before found ++ after → after ≡ []) }
+/// Why a store is not opened that has no record there, behind so many whole ones, and does not end there.
+fn stop_fault(stop: NoRecord, whole: usize) -> StoreFault
+    ensures torn { stop ≡ NoRecord.Torn → result ≡ Recover (torn_behind whole) }
+    ensures damaged { stop ≡ NoRecord.Damaged → result ≡ Recover (unread (damaged_behind whole)) }
 {
-    bytes.clear();
-    calls.read_on(1 + SECOND, bytes)?;
-    calls.read_on(size_behind(bytes), bytes)
-}
-
-/// How many bytes a record has that begins with these, its gate and its numbers, behind them. There are none where no
-/// record begins so.
-fn size_behind(front: &[u8]) -> usize
-    ensures { (before more after : List ℕ) (found : AnyEntry) → IsRecord Second found → length front.now ≤ 14 →
-        length more ≤ result → front.now ++ more ≡ frame Second before found ++ after → after ≡ [] }
-{
-    if front.is_empty() {
-        return 0;
-    }
-    let (gate, behind) = read_byte(front);
-    if gate != OPEN {
-        return 0;
-    }
-    match read_numbers(Version::Second, behind) {
-        Some((numbers, _rest)) => numbers.named as usize + DIGEST + numbers.size as usize,
-        None => 0,
+    match stop {
+        NoRecord::Torn => StoreFault::Recover(RecoverFault::Torn(whole)),
+        _ => StoreFault::from(ReadFault::Damaged(whole)),
     }
 }
 
@@ -401,8 +383,9 @@ pub fn pass_records<C: Calls, A: Allocator + Copy>(
         (C.Calls.history opening.old.calls) (C.Calls.history opening.new.calls)) }
     ensures same { C.Calls.history opening.new.calls ≡ C.Calls.history opening.old.calls }
 {
+    let mut passing = Passing;
     for _ in 0..usize::MAX {
-        if !opening.read_next()? {
+        if !opening.read_next(&mut passing)? {
             return Ok(());
         }
     }

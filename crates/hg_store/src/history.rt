@@ -40,6 +40,12 @@ pub enum Call<'a> {
     Renewed,
     /// In a folder: these bytes, which stood after so many records, were kept in a new file.
     TailKept(usize, &'a [u8]),
+    /// Of a file that is read, it is read once more from that place on.
+    WentBack(usize),
+    /// The file was held against other processes, synced, and what the system kept of it was dropped.
+    Held,
+    /// Of a file that is held, these bytes were read that stand from that place on.
+    Looked(usize, &'a [u8]),
 }
 
 impl History {

@@ -1,15 +1,17 @@
 //! A file of the system.
 
-ghost use Rattle.std.specs.Prelude.{◌≡◌, ◌++◌, ◌∷◌, [], true};
+ghost use Rattle.std.specs.Prelude.{◌≡◌, ◌≤◌, ◌++◌, ◌∷◌, [], List, ℕ, IfOk, OnErr, OnOk, true};
 ghost use Rattle.hg_store.specs.Calls.{bytes_in};
 ghost use Rattle.hg_store.specs.History.{event_of};
+ghost use Rattle.hg_store.specs.Standbys.{IsAskedFor};
 
 use crate::calls::Calls;
 use crate::device::DeviceError;
 use crate::history::{Call, History};
 use crate::pieces::read_up_to;
+use crate::placed::is_named;
 use std::alloc::Allocator;
-use std::fs::File;
+use std::fs::{File, Files, TryLockError};
 use std::io;
 use std::io::{Read, Seek, SeekFrom};
 use std::os::fd::AsRawFd;
@@ -47,6 +49,30 @@ impl Signs {
             && self.length == opened.length
             && self.names == 1
     }
+
+    /// Whether a file with these signs is one that was followed with the others, with one name, and has all that was
+    /// read of it.
+    fn go_on(&self, followed: &Signs) -> bool
+        ensures same { result ≡ true → (self.now.device ≡ followed.now.device)
+            × (self.now.number ≡ followed.now.number) × (followed.now.length ≤ self.now.length)
+            × (self.now.names ≡ 1) }
+    {
+        self.device == followed.device
+            && self.number == followed.number
+            && self.length >= followed.length
+            && self.names == 1
+    }
+}
+
+/// What comes of it where a file that is followed is asked for.
+#[derive(Clone, Copy, Debug, PartialEq, Eq)]
+pub enum Hold {
+    /// Another process holds it.
+    Waits,
+    /// It is not the file of its name any more, or shorter than what was read of it.
+    Gone,
+    /// It is held against other processes. What is read of it from then on is what the disk has.
+    Held,
 }
 
 /// An open file of the system. Each call makes one call of the system and notes it; that is to be read
@@ -57,6 +83,8 @@ pub struct HostFile {
     file: File,
     /// What it had when it was read, with the length that it was given since.
     signs: Option<Signs>,
+    /// Whether it is read while another process holds it: then it is not synced, and never changed.
+    is_followed: bool,
     /// Whether it was changed since it was read or synced last.
     is_begun: bool,
     /// Whether another has changed it.
@@ -73,9 +101,23 @@ impl HostFile {
     pub fn new(file: File) -> HostFile
         ensures { result.history.events ≡ [] }
     {
+        HostFile::with(file, false)
+    }
+
+    /// The same of one that another process may hold.
+    pub fn followed(file: File) -> HostFile
+        ensures { result.history.events ≡ [] }
+    {
+        HostFile::with(file, true)
+    }
+
+    fn with(file: File, is_followed: bool) -> HostFile
+        ensures { result.history.events ≡ [] }
+    {
         HostFile {
             file,
             signs: None,
+            is_followed,
             is_begun: false,
             is_foreign: false,
             is_over: false,
@@ -95,7 +137,10 @@ impl HostFile {
     fn begin_own(&mut self) -> io::Result<()>
         ensures { self.new.history ≡ self.old.history }
     {
-        begin_anew(&mut self.file)?;
+        if !self.is_followed {
+            take_anew(&self.file)?;
+        }
+        self.file.seek(SeekFrom::Start(0))?;
         let mut signs = Signs::of(&self.file)?;
         signs.length = 0;
         self.signs = Some(signs);
@@ -116,10 +161,108 @@ impl HostFile {
         self.pieces = self.pieces.and(&Call::Read(piece));
     }
 
-    /// Looks whether the file is still the one that was read, where a batch of changes begins.
+    /// How many of so many bytes are read on. Of a file that is followed none behind the length that it has now is read:
+    /// what another machine adds may be seen there before it is written.
+    fn within(&self, count: usize) -> io::Result<usize>
+        ensures { IfOk result (λ within. within ≤ count) }
+    {
+        let Some(followed) = &self.signs else {
+            return Ok(count);
+        };
+        if !self.is_followed {
+            return Ok(count);
+        }
+        let found = self.file.metadata()?.len();
+        let more = found.saturating_sub(followed.length);
+        Ok(count.min(more as usize))
+    }
+
+    /// Goes back to a place.
+    fn go_to(&mut self, place: u64) -> io::Result<()>
+        ensures history { self.new.history ≡ self.old.history }
+        ensures pieces { self.new.pieces ≡ self.old.pieces }
+    {
+        self.file.seek(SeekFrom::Start(place))?;
+        self.grow(place);
+        self.is_over = false;
+        Ok(())
+    }
+
+    /// Appends so many bytes from a place on, or those that there are, and goes back to where it was.
+    fn look_at<A: Allocator>(
+        &mut self,
+        at: usize,
+        count: usize,
+        bytes: &mut Vec<u8, A>,
+    ) -> Result<(), DeviceError>
+        ensures history { self.new.history ≡ self.old.history }
+        ensures pieces { self.new.pieces ≡ self.old.pieces }
+        ensures bytes { OnOk result ((more : List ℕ) × (bytes.new.items ≡ bytes.old.items ++ more)) }
+    {
+        let back = match &self.signs {
+            Some(signs) => signs.length,
+            None => 0,
+        };
+        if let Err(error) = self.file.seek(SeekFrom::Start(at as u64)) {
+            return Err(device_error(error));
+        }
+        read_up_to(&mut self.file, count, bytes)?;
+        match self.file.seek(SeekFrom::Start(back)) {
+            Ok(_) => Ok(()),
+            Err(error) => Err(device_error(error)),
+        }
+    }
+
+    /// Asks for a file that is followed, and is one with that name. It is held only where it is still that file, and has
+    /// all that was read of it.
+    pub fn hold<R: Files<File = File>>(&mut self, files: &R, name: &str) -> io::Result<Hold>
+        ensures pieces { self.new.pieces ≡ self.old.pieces }
+        ensures held { IfOk result (λ hold. IsAskedFor hold self.old.history.events self.new.history.events) }
+        ensures err { OnErr result (self.new.history ≡ self.old.history) }
+    {
+        let hold = self.ask(files, name)?;
+        if hold == Hold::Held {
+            self.is_followed = false;
+            self.note(&Call::Held);
+        }
+        Ok(hold)
+    }
+
+    /// Asks for it. Where it is held, it is synced, and what the system keeps of it is dropped.
+    fn ask<R: Files<File = File>>(&self, files: &R, name: &str) -> io::Result<Hold> {
+        match self.file.try_lock() {
+            Ok(()) => {}
+            Err(TryLockError::WouldBlock) => return Ok(Hold::Waits),
+            Err(TryLockError::Error(error)) => return Err(error),
+        }
+        if !self.goes_on(files, name)? {
+            return Ok(Hold::Gone);
+        }
+        take_anew(&self.file)?;
+        Ok(Hold::Held)
+    }
+
+    /// Whether it is still the file of that name, with one name, and has all that was read of it.
+    fn goes_on<R: Files<File = File>>(&self, files: &R, name: &str) -> io::Result<bool> {
+        let Some(followed) = self.signs else {
+            return Ok(false);
+        };
+        match is_named(files, &self.file, name) {
+            Ok(true) => Ok(Signs::of(&self.file)?.go_on(&followed)),
+            Ok(false) => Ok(false),
+            Err(error) if error.kind() == io::ErrorKind::NotFound => Ok(false),
+            Err(error) => Err(error),
+        }
+    }
+
+    /// Looks whether the file is still the one that was read, where a batch of changes begins. One that is followed is not
+    /// changed.
     fn begin_change(&mut self) -> io::Result<()>
         ensures { self.new.history ≡ self.old.history }
     {
+        if self.is_followed {
+            return Err(io::Error::from(io::ErrorKind::Other));
+        }
         let Some(opened) = self.signs else {
             return Ok(());
         };
@@ -133,7 +276,7 @@ impl HostFile {
 
     /// Remembers how long the file is.
     fn grow(&mut self, length: u64)
-        ensures { self.new.history ≡ self.old.history }
+        ensures { (self.new.history ≡ self.old.history) × (self.new.pieces ≡ self.old.pieces) }
     {
         if let Some(signs) = &mut self.signs {
             signs.length = length;
@@ -167,7 +310,8 @@ impl HostFile {
 
     /// Notes a call.
     pub(crate) fn note(&mut self, call: &Call<'_>)
-        ensures { self.new.history.events ≡ event_of call.now ∷ self.old.history.events }
+        ensures history { self.new.history.events ≡ event_of call.now ∷ self.old.history.events }
+        ensures pieces { self.new.pieces ≡ self.old.pieces }
     {
         self.history = self.history.and(call);
     }
@@ -181,15 +325,14 @@ pub fn read_all<A: Allocator + Copy>(alloc: A, file: &mut File) -> io::Result<Ve
     Ok(bytes)
 }
 
-/// Goes to the first byte of a file, of which then is read what the disk has: what the system keeps of it is brought
-/// there and dropped first, since after a sync that failed it may be other than what the disk has.
-fn begin_anew(file: &mut File) -> io::Result<()> {
+/// So that what is read of a file is what the disk has: what the system keeps of it is brought there and dropped, since
+/// after a sync that failed it may be other than what the disk has.
+fn take_anew(file: &File) -> io::Result<()> {
     file.sync_all()?;
     let advised = libc::posix_fadvise(file.as_raw_fd(), 0, 0, libc::POSIX_FADV_DONTNEED);
     if advised != 0 {
         return Err(io::Error::from_raw_os_error(advised));
     }
-    file.seek(SeekFrom::Start(0))?;
     Ok(())
 }
 
@@ -225,9 +368,34 @@ impl Calls for HostFile {
         bytes: &mut Vec<u8, A>,
     ) -> Result<(), DeviceError> {
         let before = bytes.len();
-        read_up_to(&mut self.file, count, bytes)?;
+        let within = match self.within(count) {
+            Ok(within) => within,
+            Err(error) => return Err(device_error(error)),
+        };
+        read_up_to(&mut self.file, within, bytes)?;
         let (_earlier, piece) = bytes.split_at(before);
         self.remember(piece, piece.len() < count);
+        Ok(())
+    }
+
+    fn go_back(&mut self, place: usize) -> Result<(), DeviceError> {
+        if let Err(error) = self.go_to(place as u64) {
+            return Err(device_error(error));
+        }
+        self.pieces = self.pieces.and(&Call::WentBack(place));
+        Ok(())
+    }
+
+    fn look<A: Allocator>(
+        &mut self,
+        at: usize,
+        count: usize,
+        bytes: &mut Vec<u8, A>,
+    ) -> Result<(), DeviceError> {
+        let before = bytes.len();
+        self.look_at(at, count, bytes)?;
+        let (_earlier, piece) = bytes.split_at(before);
+        self.note(&Call::Looked(at, piece));
         Ok(())
     }
 

@@ -41,6 +41,7 @@
 //! SHA-1 of its bundle.
 #![tactic(auto)]
 
+mod bundle;
 mod calls;
 mod device;
 mod entry;
@@ -49,6 +50,7 @@ mod folder;
 mod front;
 mod gates;
 mod head;
+mod heading;
 mod history;
 mod host;
 mod kept;
@@ -64,21 +66,23 @@ mod placed;
 mod read;
 mod record;
 mod sealed;
+mod standby;
 mod start;
 mod tail;
 
+pub use bundle::{BundleTaker, Passing};
 pub use calls::Calls;
 pub use device::{Device, DeviceError};
-pub use entry::{Entry, Stamp, Standing};
+pub use entry::{Entry, Passed, Stamp, Standing};
 pub use file::StoreFile;
 pub use folder::{
-    begin_store, create_store, kept_file, make_folder, new_identity, new_store, open_held,
-    store_file,
+    begin_store, create_store, follow_store, hold_store, kept_file, make_folder, new_identity,
+    new_store, open_held, store_file,
 };
 pub use front::{Opening, open_file, pass_records};
 pub use head::{Head, HeadFault, Setup, Version};
 pub use history::{Call, History};
-pub use host::{HostFile, read_all};
+pub use host::{Hold, HostFile, read_all};
 pub use kept::KeptTail;
 pub use log::Log;
 pub use names::StoreFolder;

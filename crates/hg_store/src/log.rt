@@ -1,9 +1,11 @@
 //! A log on a device. A batch of records is written after a shut gate and synced; then the gate is opened,
 //! by a write of one byte, and synced: so a crash at any moment leaves all of the batch or none, whatever
-//! it makes of what was not synced, and no digest is trusted for it. Each record is written from where it
-//! is, so that no memory is asked for.
+//! it makes of what was not synced, and no digest is trusted for it. What stands behind the shut gate is
+//! gathered and written by one call, where that is 1 MiB at most and memory is there for it; else each record
+//! is written from where it is.
 
 ghost use Rattle.std.specs.Prelude.{◌≡◌, ◌<◌, ◌≤◌, ◌+◌, ◌^◌, ◌++◌, ◌∷◌, [], ℕ, List, drop, length, OnOk, IfOk, IsErrOf};
+ghost use Rattle.std.specs.Prelude.{IfSome, None};
 ghost use Rattle.std.specs.List.{AllByRecursion};
 ghost use Rattle.hg_store.specs.Device.{Overwrites, LeavesOnly, Only};
 ghost use Rattle.hg_store.specs.Entries.{Entry as AnyEntry};
@@ -26,6 +28,9 @@ use std::alloc::Allocator;
 
 /// How long a file may be before a batch.
 pub(crate) const MOST_BYTES: usize = 1 << 62;
+
+/// How many bytes of a batch are gathered at most, to be written by one call.
+const MOST_GATHERED: usize = 1 << 20;
 
 /// A store of version 2 that is open for more: the place of its shut gate, and the digest of its last record.
 #[derive(Drop)]
@@ -158,6 +163,100 @@ fn write_batch<D: Device, A: Allocator>(
     Ok((at, digest))
 }
 
+/// How many bytes these records have in a store of version 2. `None` where they are more than are gathered.
+fn gathered_size<A: Allocator>(batch: &[Sealed<A>]) -> Option<usize>
+    requires { AllByRecursion IsSized batch.now }
+    ensures size { (before : List ℕ) → IfSome result (λ size. size ≡ length (frames Second before batch.now)) }
+    ensures few { IfSome result (λ size. size ≤ 2 ^ 20) }
+    ensures many { (before : List ℕ) → result ≡ None → 2 ^ 20 < length (frames Second before batch.now) }
+{
+    let mut size = 0;
+    for record in batch {
+        size += record.size();
+        if size > MOST_GATHERED {
+            return None;
+        }
+    }
+    Some(size)
+}
+
+/// Appends the records of a batch, as they stand in a store after one with that digest. Gives the digest of the last.
+fn put_batch<A: Allocator, B: Allocator>(
+    out: &mut Vec<u8, B>,
+    before: &[u8; 20],
+    batch: &[Sealed<A>],
+) -> Result<[u8; 20], NoMemory>
+    requires empty { out.old.items ≡ [] }
+    requires each { AllByRecursion IsSized batch.now }
+    ensures bytes { OnOk result (out.new.items ≡ frames Second before.now batch.now) }
+    ensures digest { IfOk result (λ digest. digest ≡ last_digest Second before.now batch.now) }
+    ensures each { OnOk result (AllByRecursion (IsRecord Second) batch.now) }
+{
+    let mut digest = *before;
+    for record in batch {
+        digest = record.put(out, &digest)?;
+    }
+    Ok(digest)
+}
+
+/// The records of a batch as they stand in a store after one with that digest, and a shut gate after them, gathered in
+/// memory of the first; and the digest of the last. `None` where there is no record, where they are more than 1 MiB but
+/// the first gate, and where memory is refused.
+fn gather<'a, A: Allocator>(
+    before: &[u8; 20],
+    batch: &'a [Sealed<A>],
+) -> Option<(Vec<u8, &'a A>, [u8; 20])>
+    requires { AllByRecursion IsSized batch.now }
+    ensures bytes { IfSome result (λ made. made.0.items ≡ frames Second before.now batch.now ++ 0 ∷ []) }
+    ensures digest { IfSome result (λ made. made.1 ≡ last_digest Second before.now batch.now) }
+    ensures each { IfSome result (λ _. AllByRecursion (IsRecord Second) batch.now) }
+    ensures some { IfSome result (λ _. 0 < length batch.now) }
+    ensures few { IfSome result (λ made. length made.0.items ≤ 2 ^ 20 + 1) }
+{
+    let first = batch.first()?;
+    let size = gathered_size(batch)?;
+    let mut bytes = Vec::with_capacity(first.allocator(), size + 1).ok()?;
+    let digest = put_batch(&mut bytes, before, batch).ok()?;
+    bytes.push(SHUT).ok()?;
+    Some((bytes, digest))
+}
+
+/// Writes the records of a batch, but the gate of the first, and a shut gate after them, at the end of a file: by one
+/// call where they are gathered, and else each from where it is. Gives the place of that gate, and the digest of the
+/// last record.
+fn write_ungated<D: Device, A: Allocator>(
+    device: &mut D,
+    start: usize,
+    before: &[u8; 20],
+    batch: &[Sealed<A>],
+) -> Result<(usize, [u8; 20]), DeviceError>
+    requires end { start ≡ length (D.seen device.old) }
+    requires fits { start ≤ 2 ^ 62 }
+    requires each { AllByRecursion IsSized batch.now }
+    ensures written { IfOk result (λ _.
+        D.seen device.new ≡ D.seen device.old ++ ungated Second before.now batch.now) }
+    ensures end { IfOk result (λ made. made.0 + 1 ≡ length (D.seen device.new)) }
+    ensures digest { IfOk result (λ made. made.1 ≡ last_digest Second before.now batch.now) }
+    ensures each { IfOk result (λ _. AllByRecursion (IsRecord Second) batch.now) }
+    ensures front { (front : List ℕ) → length front ≤ start → Begin front (D.may_leave device.old) →
+        KeepsFront D.moment D.left_since D.may_leave front device.old device.new }
+    ensures later { D.faults device.old ≤ D.faults device.new }
+    ensures beats { D.beats device.old ≤ D.beats device.new }
+    ensures failed { IsErrOf result DeviceError.Failed → D.faults device.old < D.faults device.new }
+    ensures full { IsErrOf result DeviceError.Full →
+        2 ^ 62 ≤ start + length (frames Second before.now batch.now) }
+{
+    let Some(gathered) = gather(before, batch) else {
+        let (end, digest) = write_batch(device, start, before, batch)?;
+        write_behind(device, end, &[SHUT])?;
+        return Ok((end, digest));
+    };
+    let (bytes, digest) = gathered;
+    let (_gate, behind) = bytes.split_at(1);
+    write_behind(device, start, behind)?;
+    Ok((start + behind.len() - 1, digest))
+}
+
 /// Writes the bytes, and syncs.
 pub(crate) fn put_synced<D: Device>(
     device: &mut D,
@@ -181,8 +280,9 @@ pub(crate) fn put_synced<D: Device>(
 }
 
 impl<D: Device> Log<D> {
-    /// Adds a record and more after it, each written from where it is: no memory is asked for, and of their
-    /// bytes no digest is made. At `Ok` all are acknowledged: from then on each crash leaves a file that has them. At `Err`, open the file again.
+    /// Adds a record and more after it. Of their bundles no digest is made. Memory is asked for where they are 1 MiB at
+    /// most, to write them by one call; where it is refused each is written from where it is. At `Ok` all are
+    /// acknowledged: from then on each crash leaves a file that has them. At `Err`, open the file again.
     pub fn append<A: Allocator>(&mut self, batch: &[Sealed<A>]) -> Result<(), DeviceError>
         requires some { 0 < length batch.now }
         requires each { AllByRecursion IsSized batch.now }
@@ -262,9 +362,8 @@ impl<D: Device> Log<D> {
         if self.end >= MOST_BYTES {
             return Err(DeviceError::Full);
         }
-        let (end, digest) = write_batch(&mut self.device, self.end + 1, &self.digest, batch)?;
-        write_behind(&mut self.device, end, &[SHUT])?;
+        let staged = write_ungated(&mut self.device, self.end + 1, &self.digest, batch)?;
         self.device.sync()?;
-        Ok((end, digest))
+        Ok(staged)
     }
 }

@@ -4,7 +4,7 @@ ghost use Rattle.std.specs.Prelude.{◌≡◌, ◌++◌, ◌∷◌, List, []};
 ghost use Rattle.std.specs.Borrow.{ftrue};
 ghost use Rattle.hg_store.specs.Entries.{Entry as AnyEntry};
 
-use crate::entry::Standing;
+use crate::entry::Passed;
 use std::marker::Model;
 
 /// Records that were read, in their order. It has no bytes, and its functions do nothing when they run: so what it says
@@ -27,7 +27,7 @@ impl NotedRecords {
     }
 
     /// These records, and one more.
-    pub fn and(&self, _record: &Standing<'_>) -> NotedRecords
+    pub fn and(&self, _record: &Passed<'_>) -> NotedRecords
         ensures { result.entries ≡ self.now.entries ++ _record.now ∷ [] }
     {
         NotedRecords {}

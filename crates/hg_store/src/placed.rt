@@ -43,7 +43,11 @@ pub fn hold<R: Files<File = File>>(files: &R, file: &File, name: &str) -> io::Re
 }
 
 /// Whether the file is the one of this name, and the name is no link to it.
-fn is_named<R: Files<File = File>>(files: &R, file: &File, name: &str) -> io::Result<bool> {
+pub(crate) fn is_named<R: Files<File = File>>(
+    files: &R,
+    file: &File,
+    name: &str,
+) -> io::Result<bool> {
     let held = file.metadata()?;
     let named = fs::symlink_metadata(files, name)?;
     Ok(held.dev() == named.dev() && held.ino() == named.ino())
@@ -189,6 +193,19 @@ impl<'a, R: Files<File = File>, A: Allocator + Copy> Calls for PlacedFile<'a, R,
         bytes: &mut Vec<u8, B>,
     ) -> Result<(), DeviceError> {
         self.host.read_on(count, bytes)
+    }
+
+    fn go_back(&mut self, place: usize) -> Result<(), DeviceError> {
+        self.host.go_back(place)
+    }
+
+    fn look<B: Allocator>(
+        &mut self,
+        at: usize,
+        count: usize,
+        bytes: &mut Vec<u8, B>,
+    ) -> Result<(), DeviceError> {
+        self.host.look(at, count, bytes)
     }
 
     fn note_read(&mut self) {

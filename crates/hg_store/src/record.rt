@@ -1,6 +1,6 @@
 //! One record of a log.
 
-ghost use Rattle.std.specs.Prelude.{◌≡◌, ◌≤◌, ◌<◌, ◌^◌, ◌++◌, ◌∷◌, IfOk, IsErrOf, OnErr, length};
+ghost use Rattle.std.specs.Prelude.{◌≡◌, ◌≤◌, ◌<◌, ◌^◌, ◌++◌, ◌∷◌, IfOk, IsErrOf, OnErr, OnOk, length};
 ghost use Rattle.sha1.specs.Sha1.{sha1};
 ghost use Rattle.hg_store.specs.Entries.{Entry as AnyEntry};
 ghost use Rattle.hg_store.specs.Records.{IsDamaged, IsEnd, IsNext, IsRecord, IsTorn, chained_label, digest_of, frame};
@@ -91,12 +91,28 @@ pub fn put_record<A: Allocator, B: Allocator>(
         name,
         &Sha1::digest(entry.bundle()),
     );
+    put_parts(out, version, numbers, name, &digest, entry.bundle())?;
+    Ok(digest)
+}
+
+/// Appends a record of these parts. Where memory is refused, `out` may have a part of it.
+pub(crate) fn put_parts<A: Allocator>(
+    out: &mut Vec<u8, A>,
+    version: Version,
+    numbers: Numbers,
+    name: &[u8],
+    digest: &[u8; 20],
+    bundle: &[u8],
+) -> Result<(), NoMemory>
+    ensures { OnOk result (out.new.items ≡ out.old.items
+        ++ (open_gate version ∷ (numbers_bytes version numbers ++ name.now) ++ (digest.now ++ bundle.now))) }
+{
     out.push(version.open_gate())?;
     numbers.put(version, out)?;
     out.extend_from_slice(name)?;
-    out.extend_from_slice(&digest)?;
-    out.extend_from_slice(entry.bundle())?;
-    Ok(digest)
+    out.extend_from_slice(digest)?;
+    out.extend_from_slice(bundle)?;
+    Ok(())
 }
 
 /// The record that these bytes begin with, and what follows it; the digest, which was that of the record

@@ -1,17 +1,17 @@
 //! A record that is on its way to a store.
 
-ghost use Rattle.std.specs.Prelude.{◌≡◌};
+ghost use Rattle.std.specs.Prelude.{◌≡◌, ◌<◌, ◌+◌, ◌^◌, ◌++◌, IfOk, length};
 ghost use Rattle.hg_store.specs.Entries.{IsStamp};
-ghost use Rattle.hg_store.specs.Records.{IsSized, digest_of, numbers_of};
+ghost use Rattle.hg_store.specs.Records.{IsRecord, IsSized, digest_of, frame, numbers_of};
 ghost use Rattle.hg_store.specs.code.Held.{bytes_of};
 ghost use Rattle.hg_store.specs.declared.head.Version.TheVariants.{Second};
 
 use crate::entry::Stamp;
 use crate::head::Version;
-use crate::numbers::Numbers;
-use crate::record::chained_after;
+use crate::numbers::{Numbers, SECOND};
+use crate::record::{DIGEST, chained_after, put_parts};
 use bytes::Bytes;
-use hg_types::Seq;
+use hg_types::{NoMemory, Seq};
 use sha1::Sha1;
 use std::alloc::{Allocator, Global};
 use std::marker::Model;
@@ -105,6 +105,45 @@ impl<A: Allocator> Sealed<A> {
         ensures stamp { IsStamp self.now.stamp }
     {
         self.stamp.numbers(self.bundle.as_slice().len())
+    }
+
+    /// What gives memory for its stamp.
+    pub(crate) fn allocator(&self) -> &A {
+        self.stamp.allocator()
+    }
+
+    /// How many bytes it has in a store of version 2.
+    pub(crate) fn size(&self) -> usize
+        requires { IsSized self.now }
+        ensures size { result ≡ 34 + length self.now.stamp.name + length self.now.bundle }
+        ensures few { result < 2 ^ 33 }
+    {
+        let numbers = self.numbers();
+        1 + SECOND + numbers.named as usize + DIGEST + numbers.size as usize
+    }
+
+    /// Appends it as it stands in a store of version 2, after a record with that digest, and gives its own digest.
+    /// Where memory is refused, `out` may have a part of it.
+    pub(crate) fn put<B: Allocator>(
+        &self,
+        out: &mut Vec<u8, B>,
+        before: &[u8; 20],
+    ) -> Result<[u8; 20], NoMemory>
+        requires { IsSized self.now }
+        ensures record { IfOk result (λ digest. (digest ≡ digest_of Second before.now self.now)
+            × (out.new.items ≡ out.old.items ++ frame Second before.now self.now)) }
+        ensures stamp { IsRecord Second self.now }
+    {
+        let digest = self.chained(before);
+        put_parts(
+            out,
+            Version::Second,
+            self.numbers(),
+            self.stamp().name(),
+            &digest,
+            self.bundle(),
+        )?;
+        Ok(digest)
     }
 
     /// Its digest in a store of version 2, after a record with that digest. The bundle is not read for it.

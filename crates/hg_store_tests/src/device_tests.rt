@@ -20,12 +20,15 @@ use std::alloc::{Allocator, Global};
 use std::test::*;
 
 /// Calls of which none fails.
-const NO_LIMIT: usize = 1000;
+pub const NO_LIMIT: usize = 1000;
+
+/// The calls for a batch whose records are written by one.
+const GATHERED: usize = 4;
 
 const RECORDS: [&[u8]; 4] = [b"first", b"", b"second", b"the third one"];
 
 /// How the server is set up in these tests.
-fn standard() -> Setup {
+pub fn standard() -> Setup {
     Setup {
         publishing: true,
         limits: Limits::standard(),
@@ -38,7 +41,7 @@ fn head() -> Head {
 }
 
 /// A store of the first so many records, with a shut gate.
-fn store_of(alloc: Global, count: usize) -> Result<Vec<u8>, Fail> {
+pub fn store_of(alloc: Global, count: usize) -> Result<Vec<u8>, Fail> {
     let mut file = Vec::new(alloc);
     head().put(&mut file)?;
     let mut digest = read_records(alloc, &file)?.digest;
@@ -150,16 +153,15 @@ fn has_all_or_none(alloc: Global, paper: &Paper, size: usize, added: bool) -> Re
     Ok(so)
 }
 
-// A batch of 1, 2 and 3 records after one, where the file fails at each call in turn. A record is written by four
-// calls, a shut gate and the open one by one each, and each of the two gates is synced.
+// A batch of 1, 2 and 3 records after one, where the file fails at each call in turn. The records are written by one
+// call, and so is the open gate, and each of the two is synced.
 #[test]
 fn a_batch_on_a_file_that_fails(rt: HostRuntime) -> Result<(), Fail> {
     let alloc = rt.alloc();
     for size in 1..4usize {
         let after = store_of(alloc, size + 1)?;
         let batch = records(alloc, 1, size + 1)?;
-        let all = size.saturating_mul(4).saturating_add(4);
-        for calls in 0..all.saturating_add(1) {
+        for calls in 0..=GATHERED {
             let Opened { log, .. } = opened(
                 alloc,
                 paper_with(alloc, calls, NO_LIMIT)?,
@@ -168,16 +170,110 @@ fn a_batch_on_a_file_that_fails(rt: HostRuntime) -> Result<(), Fail> {
             let (result, paper) = added(log, &batch);
             assert_eq!(rt;
                 result.is_ok(),
-                calls == all,
+                calls == GATHERED,
                 "{size} records, {calls} calls"
             );
-            let so = has_all_or_none(alloc, &paper, size, calls == all)?;
+            let so = has_all_or_none(alloc, &paper, size, calls == GATHERED)?;
             assert!(rt; so, "{size} records, {calls} calls");
-            if calls == all {
+            if calls == GATHERED {
                 assert_eq!(rt; paper.synced.as_slice(), after.as_slice());
             }
         }
     }
+    Ok(())
+}
+
+/// Bytes of a record that is 1 MiB with what stands before them, but the first gate, and a shut gate after them.
+const MOST: usize = (1 << 20) - 34;
+
+/// A batch of a record of so many bytes, and of another one where there is one.
+fn sized<A: Allocator + Copy>(
+    alloc: A,
+    first: usize,
+    second: Option<usize>,
+) -> Result<Vec<Sealed<A>, A>, NoMemory>
+    ensures some { IfOk result (λ batch. 0 < length batch.items) }
+    ensures each { IfOk result (λ batch. AllByRecursion IsSized batch.items) }
+{
+    let mut batch = Vec::new(alloc);
+    let mut bytes = Vec::new(alloc);
+    bytes.resize(first, 7)?;
+    add(alloc, &mut batch, &bytes)?;
+    if let Some(second) = second {
+        bytes.resize(second, 7)?;
+        add(alloc, &mut batch, &bytes)?;
+    }
+    Ok(batch)
+}
+
+/// How many calls it takes to add a batch, and whether the file has its records then.
+fn calls_of<A: Allocator + Copy>(alloc: Global, batch: &[Sealed<A>]) -> Result<(usize, bool), Fail>
+    requires some { 0 < length batch.now }
+    requires each { AllByRecursion IsSized batch.now }
+{
+    let Opened { log, .. } = opened(
+        alloc,
+        paper_with(alloc, NO_LIMIT, usize::MAX)?,
+        &mut Drawer::new(alloc),
+    )?;
+    let (result, paper) = added(log, batch);
+    result?;
+    let found = read_records(alloc, &paper.synced)?.records;
+    let found = found.as_slice();
+    let mut is_so = found.len() == batch.len().saturating_add(1);
+    for (entry, sealed) in found.iter().skip(1).zip(batch) {
+        is_so = is_so && entry.bundle() == sealed.bundle();
+    }
+    Ok((NO_LIMIT.saturating_sub(paper.calls), is_so))
+}
+
+// Batches that are 1 MiB or less behind their first gate, and longer ones. Result: the first are written by one call,
+// and of the others each record by four and the shut gate by one.
+#[test]
+fn a_batch_is_written_by_one_call(rt: HostRuntime) -> Result<(), Fail> {
+    let alloc = rt.alloc();
+    for size in 1..4usize {
+        let batch = records(alloc, 1, size + 1)?;
+        assert_eq!(rt;
+            calls_of(alloc, &batch)?,
+            (GATHERED, true),
+            "{size} records"
+        );
+    }
+    for (first, second, calls) in [
+        (0, None, GATHERED),
+        (MOST - 1, None, GATHERED),
+        (MOST, None, GATHERED),
+        (MOST + 1, None, 8),
+        (2 * MOST, None, 8),
+        (0, Some(MOST - 34), GATHERED),
+        (0, Some(MOST - 33), 12),
+        (MOST - 34, Some(0), GATHERED),
+        (MOST - 33, Some(0), 12),
+        (MOST / 2, Some(MOST / 2), 12),
+        (MOST / 2, Some(MOST / 2 - 34), GATHERED),
+    ] {
+        let batch = sized(alloc, first, second)?;
+        assert_eq!(rt;
+            calls_of(alloc, &batch)?,
+            (calls, true),
+            "{first} bytes and {second:?}"
+        );
+    }
+    Ok(())
+}
+
+// A batch over a heap of which nothing is left, and then over the same heap. Result: each record is written by four
+// calls; and all by one.
+#[test]
+fn a_batch_is_written_where_memory_is_refused(rt: HostRuntime) -> Result<(), Fail> {
+    let alloc = rt.alloc();
+    let heap = LocalHeap::new(alloc, 4000)?;
+    let batch = records(&heap, 1, 3)?;
+    let rest = rest_of(alloc, &heap)?;
+    assert_eq!(rt; calls_of(alloc, &batch)?, (12, true));
+    drop(rest);
+    assert_eq!(rt; calls_of(alloc, &batch)?, (GATHERED, true));
     Ok(())
 }
 

@@ -4,6 +4,7 @@ ghost use Rattle.std.specs.Prelude.{◌<◌, ◌^◌, IfOk, length};
 ghost use Rattle.std.specs.List.{AllByRecursion};
 ghost use Rattle.hg_store.specs.Records.{IsSized};
 
+use crate::opening_tests::Basket;
 use hg_help_store_tests::folder::open_store;
 use hg_store::*;
 use hg_types::{Limits, NoMemory, Seq};
@@ -34,11 +35,9 @@ fn refusal(rt: &HostRuntime, folder: &str, setup: &Setup) -> Option<StoreFault> 
 fn first_of(rt: &HostRuntime, folder: &str) -> Result<Vec<u8>, Fail> {
     let alloc = rt.alloc();
     let mut opening = begin_store(alloc, &mut StoreFolder::new(rt, folder), &standard())?;
-    let mut bundle = Vec::new(alloc);
-    if opening.read_next()? {
-        bundle.extend_from_slice(opening.bundle())?;
-    }
-    Ok(bundle)
+    let mut basket = Basket::new(alloc);
+    opening.read_next(&mut basket)?;
+    Ok(basket.bytes)
 }
 
 /// All bytes of a file, read from the disk.
@@ -219,6 +218,78 @@ fn a_file_that_is_kept(rt: HostRuntime) -> Result<(), Fail> {
         Err(fault) => assert_eq!(rt; fault, StoreFault::Exists),
     }
     assert_eq!(rt; fs::read(&rt, name)?.as_slice(), b"tail".as_slice());
+    fs::remove_dir_all(&rt, folder)?;
+    Ok(())
+}
+
+/// A store in a folder that is followed to its end.
+fn followed(rt: &HostRuntime, folder: &str) -> Result<Opening<HostFile>, Fail> {
+    let mut opening = follow_store(rt.alloc(), &mut StoreFolder::new(rt, folder), &standard())?;
+    pass_records(&mut opening)?;
+    opening.go_back()?;
+    Ok(opening)
+}
+
+/// What comes of it where it is asked for.
+fn asked(
+    rt: &HostRuntime,
+    folder: &str,
+    opening: &mut Opening<HostFile>,
+) -> Result<Hold, StoreFault> {
+    hold_store(rt.alloc(), &mut StoreFolder::new(rt, folder), opening)
+}
+
+// Two records are followed while another process holds them, and after that; then the file is cut short, has a second
+// name, is another one, or is not there. Result: it waits, and has what is added; it is held, and has what was read
+// before; else it is gone. It is not changed before it is held.
+#[test]
+fn a_store_that_is_followed(rt: HostRuntime) -> Result<(), Fail> {
+    let folder = "hg_store_followed";
+    let name = "hg_store_followed/pushes";
+    let alloc = rt.alloc();
+    fill(&rt, folder)?;
+    let mut opened = open_store(alloc, &mut StoreFolder::new(&rt, folder), &standard())?;
+    let mut opening = followed(&rt, folder)?;
+    assert_eq!(rt; opening.stored, 2);
+    assert_eq!(rt; asked(&rt, folder, &mut opening), Ok(Hold::Waits));
+    assert!(rt; opening.calls.write(0, b"?").is_err());
+    opened.log.append(&batch_of(alloc, b"third")?)?;
+    let mut basket = Basket::new(alloc);
+    assert!(rt; opening.read_next(&mut basket)?);
+    assert_eq!(rt; basket.bytes.as_slice(), b"third".as_slice());
+    drop(opened);
+    assert_eq!(rt; asked(&rt, folder, &mut opening), Ok(Hold::Held));
+    assert_eq!(rt; refusal(&rt, folder, &standard()), Some(StoreFault::Held));
+    assert!(rt; opening.still_stands()?);
+    pass_records(&mut opening)?;
+    match opening.finish(alloc, &mut StoreFolder::new(&rt, folder)) {
+        Ok(opened) => assert_eq!(rt; opened.stored, 3),
+        Err(left) => return Err(Fail::from(left.fault)),
+    }
+    let file = fs::read(&rt, name)?;
+
+    for change in 0..4 {
+        fs::write(&rt, name, file.as_slice())?;
+        let mut opening = followed(&rt, folder)?;
+        match change {
+            0 => OpenOptions::new()
+                .write(true)
+                .open(&rt, name)?
+                .set_len(100)?,
+            1 => fs::hard_link(&rt, name, "hg_store_followed/second")?,
+            2 => {
+                fs::write(&rt, "hg_store_followed/other", file.as_slice())?;
+                fs::rename(&rt, "hg_store_followed/other", name)?;
+            }
+            _ => fs::remove_file(&rt, name)?,
+        }
+        assert_eq!(rt; asked(&rt, folder, &mut opening), Ok(Hold::Gone));
+        let _ = fs::remove_file(&rt, "hg_store_followed/second");
+    }
+    assert_eq!(rt;
+        follow_store(alloc, &mut StoreFolder::new(&rt, folder), &standard()).is_err(),
+        true
+    );
     fs::remove_dir_all(&rt, folder)?;
     Ok(())
 }

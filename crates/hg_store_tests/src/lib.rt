@@ -16,11 +16,17 @@
 //!   at each length; each gate with each other value, and each other byte with six; from readers that fail at each
 //!   byte; the head and the records over heaps below 600 bytes. Result: as by hand; as of all bytes at once; the whole
 //!   records before, and that the reader failed; the same, or out of memory.
+//! - the store of version 2 opened, its records read in pieces: cut at each length; each gate with each other value, and
+//!   each other byte with six; bundles of so many bytes around one and two pieces of 256 KiB, whole, with the last byte
+//!   turned and cut there; in a file that fails at each of its reads; over heaps below 560 KiB. Result: as of all bytes
+//!   at once; whole, damaged, torn; the records before, and that the device failed; the same, or out of memory.
 //! - each byte of each record with each other value. Result: damage after the records before it; or torn, or the
 //!   end, by a gate or a size.
-//! - a batch of 1, 2 and 3 records after one, where the file fails at each of its calls: 8, 12 and
-//!   16. Result: it is added where none fails; whatever is lost, made in part or torn of what was
-//!   not synced, the first record is there, with all of the batch or none.
+//! - a batch of 1, 2 and 3 records after one, where the file fails at each of its four calls. Result: it is added where
+//!   none fails; whatever is lost, made in part or torn of what was not synced, the first record is there, with all of
+//!   the batch or none.
+//! - batches of 1 MiB behind their first gate, and of a byte less and a byte more, and over a heap of which nothing is
+//!   left. Result: written by one call up to 1 MiB, and else each record by four, by hand.
 //! - the same batch on a disk with room for each length. Result: it is added where it has room, and
 //!   else the store failed; after that no call is made.
 //! - a store without its gate, and with bytes after it, opened where the file fails at each call.
@@ -50,6 +56,11 @@
 //!   one is cut over heaps below 1,600, read over heaps below 1,200, and made over heaps below 400;
 //!   the bytes of one with a record are made over heaps below 1,200. Result: out of memory, and
 //!   nothing was written, or all is done; both occur.
+//! - a store that is followed while it gets a record after the other; three records that were read, each byte of which
+//!   is then turned, and cut short; looks that fail, one after the other. Result: each record once its gate is open, and
+//!   all at the takeover; they stand there no more where a gate or the last digest is another; the device failed. In a
+//!   folder: held by another, held, cut, another file, shorter. Result: it waits, it is held, it is gone each time, and
+//!   what is followed is not changed before it is held.
 //! - a head and a record put after each other over heaps below 800 bytes. Result: by hand, or the
 //!   first bytes of them and out of memory; the head, the record and neither are refused.
 #![tactic(auto)]
@@ -59,9 +70,13 @@ mod device_tests;
 #[cfg(test)]
 mod folder_tests;
 #[cfg(test)]
+mod opening_tests;
+#[cfg(test)]
 mod paper;
 #[cfg(test)]
 mod pieces_tests;
+#[cfg(test)]
+mod standby_tests;
 #[cfg(test)]
 mod tail_tests;
 #[cfg(test)]

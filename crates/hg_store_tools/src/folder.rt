@@ -19,6 +19,7 @@ use crate::host::{
 };
 use crate::listing::send_list_on;
 use crate::marks::StoreStart;
+use crate::measured::Measured;
 use crate::report::send_report;
 use crate::upgrade::put_upgrade;
 use hg_connection::Writer;
@@ -188,7 +189,7 @@ fn log_start<'a, R: Files<File = File>, A: Allocator + Copy>(
     alloc: A,
     folder: &'a str,
     from: usize,
-) -> Result<(StoreStart, BufReader<File, A>), ArchiveFault<'a>>
+) -> Result<(StoreStart, BufReader<Measured<File>, A>), ArchiveFault<'a>>
     ensures head { IfOk result (λ found. IsHead found.0.head) }
     ensures mark { IfOk result (λ found. found.0.mark.place ≤ from) }
 {

@@ -47,41 +47,53 @@ pub trait StoreTrail<A: Allocator> {
         ensures why { IfErr result EndsSync };
 }
 
+/// Records that were found.
+#[derive(Drop)]
+struct MoreRecords<A: Allocator> {
+    records: Vec<Entry<A>, A>,
+    /// Whether it was not seen that no other stands behind them.
+    may_go_on: bool,
+}
+
 /// Finds more records: so many that it is worth a sync, or those that are there. One that cannot be read is an `Err`
 /// where none was found before it.
 fn find_more<T: StoreTrail<A>, A: Allocator + Copy>(
     alloc: A,
     trail: &mut T,
-) -> Result<Vec<Entry<A>, A>, Fault>
-    ensures found { IfOk result (λ more. T.found trail.new ≡ T.found trail.old ++ more.items) }
+) -> Result<MoreRecords<A>, Fault>
+    ensures found { IfOk result (λ more. T.found trail.new ≡ T.found trail.old ++ more.records.items) }
     ensures some { (more : List AnyEntry) × (T.found trail.new ≡ T.found trail.old ++ more) }
     ensures durable { T.durable trail.new ≡ T.durable trail.old }
     ensures first { T.first trail.new ≡ T.first trail.old }
     ensures why { IfErr result (λ fault. EndsTrail fault (T.first trail.old + length (T.found trail.old))) }
 {
-    let mut more = Vec::new(alloc);
+    let mut records = Vec::new(alloc);
     let mut size = 0usize;
+    let mut may_go_on = true;
     'finding: for _ in 0..MOST {
         if size > ENOUGH {
-            return Ok(more);
+            break 'finding;
         }
         match trail.find() {
             Ok(Some(entry)) => {
                 size = size.saturating_add(entry.bundle().len());
-                if more.push(entry).is_err() {
+                if records.push(entry).is_err() {
                     return Err(Fault::NoMemory);
                 }
             }
-            Ok(None) => return Ok(more),
+            Ok(None) => {
+                may_go_on = false;
+                break 'finding;
+            }
             Err(fault) => {
-                if more.is_empty() {
+                if records.is_empty() {
                     return Err(fault);
                 }
-                return Ok(more);
+                break 'finding;
             }
         }
     }
-    Ok(more)
+    Ok(MoreRecords { records, may_go_on })
 }
 
 /// Writes the frame of the record at a place, unless it stands before those that are asked for.
@@ -131,6 +143,15 @@ fn write_frames<W: Writer, A: Allocator + Copy>(
     Ok(next)
 }
 
+/// What came of a look at a store that is followed.
+#[derive(Clone, Copy)]
+pub(crate) struct Look {
+    /// The place behind the records that were found.
+    pub next: usize,
+    /// Whether it was not seen that no other stands behind them.
+    pub may_go_on: bool,
+}
+
 /// Writes the frames of all records that are found behind those that were found so far, of which there are so many:
 /// they are found, then the file is synced, and then the frames are written. Gives how many there are now; where none
 /// was found, as many as before.
@@ -139,10 +160,10 @@ pub(crate) fn follow_on<T: StoreTrail<A>, W: Writer, A: Allocator + Copy>(
     log: &Logging<A>,
     place: usize,
     writer: &mut W,
-) -> Result<usize, Fault>
+) -> Result<Look, Fault>
     requires { place ≡ T.first trail.old + length (T.found trail.old) }
     ensures first { T.first trail.new ≡ T.first trail.old }
-    ensures ok { IfOk result (λ next. Follows A log.now (T.first trail.old) next (T.found trail.old) (T.durable trail.old)
+    ensures ok { IfOk result (λ look. Follows A log.now (T.first trail.old) look.next (T.found trail.old) (T.durable trail.old)
         (T.found trail.new) (T.durable trail.new) (W.told writer.old).taken (W.told writer.new).taken) }
     ensures err { IfErr result (λ fault. StopsFollowing A log.now (T.first trail.old) fault (T.found trail.old) (T.durable trail.old)
         (T.found trail.new) (T.durable trail.new) (W.told writer.old).taken (W.told writer.new).taken) }
@@ -151,19 +172,28 @@ pub(crate) fn follow_on<T: StoreTrail<A>, W: Writer, A: Allocator + Copy>(
         Ok(more) => more,
         Err(fault) => return Err(fault),
     };
-    if more.is_empty() {
-        return Ok(place);
+    if more.records.is_empty() {
+        return Ok(Look {
+            next: place,
+            may_go_on: false,
+        });
     }
     match trail.sync() {
         Ok(()) => {}
         Err(fault) => return Err(fault),
     }
-    write_frames(log, place, more.as_slice(), writer)
+    match write_frames(log, place, more.records.as_slice(), writer) {
+        Ok(next) => Ok(Look {
+            next,
+            may_go_on: more.may_go_on,
+        }),
+        Err(fault) => Err(fault),
+    }
 }
 
 /// What the one that follows a store does where no record is there.
 pub trait Pause {
-    /// Looks whether the store is to be followed on. At a `true` it first waits, for longer where nothing came.
+    /// Looks whether the store is to be followed on. At a `true` it first waits, where all was found that was there.
     fn goes_on(&mut self, is_idle: bool) -> bool;
 }
 
@@ -198,9 +228,9 @@ pub(crate) fn follow<T: StoreTrail<A>, W: Writer, P: Pause, A: Allocator + Copy>
             return FollowEnd::Left;
         }
         match follow_on(trail, log, place, writer) {
-            Ok(next) => {
-                is_idle = next == place;
-                place = next;
+            Ok(look) => {
+                is_idle = !look.may_go_on;
+                place = look.next;
             }
             Err(fault) => return FollowEnd::Stopped(fault),
         }

@@ -12,6 +12,7 @@ use crate::follow::{FollowEnd, Pause, follow};
 use crate::form::BundleForm;
 use crate::host::{fault_of, placed_start, store_reader};
 use crate::marks::StoreStart;
+use crate::measured::Measured;
 use crate::trail::{FileTrail, GrowingFile};
 use hg_connection::Writer;
 use libc::net::{POLLERR, POLLHUP, POLLNVAL, poll};
@@ -19,10 +20,11 @@ use libc::types::pollfd;
 use std::alloc::Allocator;
 use std::fs::{File, Files};
 use std::io::{BufReader, ErrorKind, Seek, SeekFrom};
-use std::os::unix::fs::{FileExt, MetadataExt};
+use std::os::unix::fs::MetadataExt;
 use std::{fs, io};
 
-/// For how many milliseconds a store in which no new push is found is not looked at.
+/// For how many milliseconds a store is not looked at in which all pushes were found: so it is looked at five times a
+/// second at most.
 const PAUSE: i32 = 200;
 
 /// What tells that the other end of a descriptor is gone.
@@ -78,13 +80,9 @@ pub fn send_trail_on<F: GrowingFile + Drop, W: Writer, P: Pause, A: Allocator + 
     follow(&mut trail, &log, start.mark.place, writer, pause)
 }
 
-impl<A: Allocator> GrowingFile for BufReader<File, A> {
+impl<A: Allocator> GrowingFile for BufReader<Measured<File>, A> {
     fn byte_at(&self, place: u64) -> io::Result<Option<u8>> {
-        let mut byte = [0];
-        match self.get_ref().read_at(&mut byte, place)? {
-            0 => Ok(None),
-            _ => Ok(Some(byte[0])),
-        }
+        self.get_ref().byte_at(place)
     }
 
     fn go_to(&mut self, place: u64) -> io::Result<()> {
@@ -93,7 +91,7 @@ impl<A: Allocator> GrowingFile for BufReader<File, A> {
     }
 
     fn sync(&mut self) -> io::Result<()> {
-        self.get_ref().sync_data()
+        self.get_ref().file().sync_data()
     }
 }
 
@@ -175,14 +173,14 @@ pub fn follow_store<'a, R: Files<File = File>, A: Allocator + Copy, W: Writer>(
         Ok(file) => file,
         Err(fault) => return Err(ArchiveFault { file: store, fault }),
     };
-    let mut watch = match watch_of(files, alloc, folder, output, file.get_ref()) {
+    let mut watch = match watch_of(files, alloc, folder, output, file.get_ref().file()) {
         Ok(watch) => watch,
         Err(fault) => {
             drop(file);
             return Err(ArchiveFault { file: store, fault });
         }
     };
-    let start = match placed_start(files, alloc, folder, file.get_ref(), from) {
+    let start = match placed_start(files, alloc, folder, file.get_ref().file(), from) {
         Ok(start) => start,
         Err(fault) => {
             drop(file);

@@ -8,6 +8,7 @@ use crate::check::check_records_on;
 use crate::fault::Fault;
 use crate::form::BundleForm;
 use crate::marks::{EACH, FoundStart, StoreStart, find_start};
+use crate::measured::Measured;
 use crate::rest::{StoreBytes, has_place, stop_of};
 use crate::upgrade::OldStore;
 use hg_store::{
@@ -42,12 +43,12 @@ pub fn fault_of_store(fault: StoreFault) -> Fault {
 /// How many bytes of a store are read at a time.
 const READ_AHEAD: usize = 65_536;
 
-/// A reader of the store in a folder, which is not held, from the disk.
+/// A reader of the store in a folder, which is not held, from the disk. Another process may make the store longer.
 pub fn store_reader<R: Files<File = File>, A: Allocator + Copy>(
     files: &R,
     alloc: A,
     folder: &str,
-) -> Result<BufReader<File, A>, Fault> {
+) -> Result<BufReader<Measured<File>, A>, Fault> {
     let file = match store_file(files, alloc, folder) {
         Ok(file) => file,
         Err(fault) => return Err(fault_of_store(fault)),
@@ -56,7 +57,7 @@ pub fn store_reader<R: Files<File = File>, A: Allocator + Copy>(
         drop(file);
         return Err(fault_of(error));
     }
-    match BufReader::with_capacity(alloc, READ_AHEAD, file) {
+    match BufReader::with_capacity(alloc, READ_AHEAD, Measured::new(file)) {
         Ok(reader) => Ok(reader),
         Err(error) => Err(fault_of(error)),
     }
@@ -80,12 +81,12 @@ pub fn checked_start<R: Files<File = File>, A: Allocator + Copy>(
     alloc: A,
     folder: &str,
     from: usize,
-) -> Result<(StoreStart, BufReader<File, A>), Fault>
+) -> Result<(StoreStart, BufReader<Measured<File>, A>), Fault>
     ensures head { IfOk result (λ found. IsHead found.0.head) }
     ensures mark { IfOk result (λ found. found.0.mark.place ≤ from) }
 {
     let mut reader = store_reader(files, alloc, folder)?;
-    let start = placed_start(files, alloc, folder, reader.get_ref(), from)?;
+    let start = placed_start(files, alloc, folder, reader.get_ref().file(), from)?;
     seek_to(&mut reader, start.mark.offset)?;
     check_records_on(alloc, &start, &mut reader)?;
     seek_to(&mut reader, start.mark.offset)?;
@@ -93,7 +94,10 @@ pub fn checked_start<R: Files<File = File>, A: Allocator + Copy>(
 }
 
 /// Goes to a place of a file. What was read ahead is dropped.
-fn seek_to<A: Allocator>(reader: &mut BufReader<File, A>, place: usize) -> Result<(), Fault> {
+fn seek_to<A: Allocator>(
+    reader: &mut BufReader<Measured<File>, A>,
+    place: usize,
+) -> Result<(), Fault> {
     match reader.seek(SeekFrom::Start(place as u64)) {
         Ok(_) => Ok(()),
         Err(error) => Err(fault_of(error)),
@@ -208,17 +212,17 @@ impl<'a, A: Allocator + Copy> StoreReads<'a, A> {
     }
 
     /// A reader of the file from that place on.
-    fn go_to(&self, place: usize) -> io::Result<BufReader<&'a File, A>> {
-        let mut file = self.file;
-        file.seek(SeekFrom::Start(place as u64))?;
+    fn go_to(&self, place: usize) -> io::Result<BufReader<Measured<&'a File>, A>> {
+        let mut file = Measured::new(self.file);
+        file.go_to(place as u64);
         BufReader::with_capacity(self.alloc, READ_AHEAD, file)
     }
 }
 
-impl<'a, A: Allocator + Copy> StoreBytes<BufReader<&'a File, A>> for StoreReads<'a, A> {
+impl<'a, A: Allocator + Copy> StoreBytes<BufReader<Measured<&'a File>, A>> for StoreReads<'a, A> {
     ghost bytes = { λ _. None };
 
-    fn reader_from(&self, place: usize) -> Result<BufReader<&'a File, A>, DeviceError> {
+    fn reader_from(&self, place: usize) -> Result<BufReader<Measured<&'a File>, A>, DeviceError> {
         match self.go_to(place) {
             Ok(reader) => Ok(reader),
             Err(error) => match error.kind() {
@@ -233,7 +237,7 @@ impl<'a, A: Allocator + Copy> StoreBytes<BufReader<&'a File, A>> for StoreReads<
 pub fn first_reader<A: Allocator + Copy>(
     file: &File,
     alloc: A,
-) -> Result<BufReader<&File, A>, Fault> {
+) -> Result<BufReader<Measured<&File>, A>, Fault> {
     match StoreReads::of(file, alloc).go_to(0) {
         Ok(reader) => Ok(reader),
         Err(error) => Err(fault_of(error)),

@@ -190,9 +190,12 @@ impl<F: GrowingFile + Drop, A: Allocator + Copy> StoreTrail<A> for FileTrail<F, 
 
     fn find(&mut self) -> Result<Option<Entry<A>>, Fault> {
         if !self.is_astray {
-            // What was read ahead may be older than the gate: where it has no record, the file is looked at.
-            if let Ok(entry) = self.read_next() {
-                return self.pass(entry);
+            // What was read ahead may be older than the gate. Where it ends, the next look shows whether there is more;
+            // where it has a torn record or damage, the file is looked at.
+            match self.read_next() {
+                Ok(entry) => return self.pass(entry),
+                Err(RecordStop::NoRecord(NoRecord::End)) => return Ok(None),
+                Err(_) => {}
             }
         }
         match self.is_open() {

@@ -40,6 +40,8 @@
 //! - a store that is followed while it grows: from each place, behind a shut gate, with a tail that is cut off, with
 //!   a writer that fails after each number of bytes, a sync that fails, damage, canonical bundles, and each growth
 //!   refused. Result: a frame for each push, by hand, and none before the file was synced with its gate open.
+//! - a file that is longer each time that its length was told, read to its end, from places in it and byte by byte.
+//!   Result: the bytes up to the length that was told, by hand, and none is asked for behind it.
 //! - the lines of a store of `C` by `ann lee`, `E` without a stamp and `M1` after the year 9999 by `-`, from each
 //!   place; what ends them; each growth refused. Result: a line for each from there on; those before it; out of
 //!   memory.
@@ -63,6 +65,8 @@ mod listing_tests;
 mod made;
 #[cfg(test)]
 mod marks_tests;
+#[cfg(test)]
+mod measured_tests;
 #[cfg(test)]
 mod paper;
 #[cfg(test)]

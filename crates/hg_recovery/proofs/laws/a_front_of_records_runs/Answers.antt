@@ -1,4 +1,4 @@
-use Rattle.hg_recovery.proofs.Running.{split_lem, join_lem}
+use Rattle.hg_recovery.proofs.Replaying.{split_lem, join_lem}
 use Rattle.hg_recovery.proofs.laws.a_front_of_records_runs.Goals as goal
 
 pub returns-clause-split : goal.returns-clause-split

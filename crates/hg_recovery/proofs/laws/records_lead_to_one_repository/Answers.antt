@@ -1,4 +1,4 @@
-use Rattle.hg_recovery.proofs.Running.{one_lem}
+use Rattle.hg_recovery.proofs.Replaying.{one_lem}
 use Rattle.hg_recovery.proofs.laws.records_lead_to_one_repository.Goals as goal
 
 pub returns : goal.returns

@@ -1,4 +1,4 @@
-use Rattle.hg_recovery.proofs.Running.{undamaged_lem}
+use Rattle.hg_recovery.proofs.Replaying.{undamaged_lem}
 use Rattle.hg_recovery.proofs.laws.records_that_run_are_not_damaged.Goals as goal
 
 pub returns : goal.returns

@@ -1,4 +1,4 @@
-use Rattle.std.proofs.Common.{◌≡◌, [], length}
+use Rattle.std.proofs.Common.{◌≡◌, []}
 use Rattle.hg_types.specs.Limits.{standard_limits}
 use Rattle.hg_store.specs.Calls.{bytes_in}
 use Rattle.hg_store.specs.Openings.{HasRead}
@@ -7,10 +7,9 @@ use Rattle.hg_recovery.specs.Replays.{Replays}
 use Rattle.hg_recovery.proofs.opening.run_records.Given as goal
 
 -- the records that were read so far lead to the repository, whose settings stay
-abbrev pub invariant-loop-place : goal.invariant-loop-place
-invariant-loop-place l = record {
+abbrev pub invariant-loop : goal.invariant-loop
+invariant-loop l = record {
   read : HasRead (λ f. bytes_in f.pieces.events) (setup_for l.publishing) [] l.opening;
-  count : length l.opening.records.entries ≡ l.place;
   ran : Replays standard_limits (empty_repository (setup_for l.publishing)) l.opening.records.entries l.repo;
   settings : l.repo.settings ≡ record { publishing = l.publishing; limits = standard_limits; first_push = 0 };
   same : l.opening.calls.history.events ≡ l.fn.opening.calls.history.events;

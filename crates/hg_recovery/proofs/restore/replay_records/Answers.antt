@@ -2,7 +2,7 @@ use Rattle.std.proofs.Common.{ℕ, List, ◌∙◌, ap, subst}
 use Rattle.hg_types.specs.declared.limits.Limits.{Limits}
 use Rattle.hg_types.specs.declared.limits.Settings.{Settings}
 use Rattle.hg_recovery.specs.Replays.{ReplaysOne}
-use Rattle.hg_recovery.proofs.Running.{more_lem}
+use Rattle.hg_recovery.proofs.Replaying.{more_lem}
 use Rattle.hg_recovery.proofs.restore.replay_records.Goals as goal
 
 pub loop-place-preserved : goal.loop-place-preserved

@@ -24,7 +24,7 @@ following-preserved g c =
     following_more g.row.A.Denot c.args.log.now c.args.first (g.T.StoreTrail.first c.following.trail) c.following.place
     (g.T.StoreTrail.found c.following.trail)
     (g.T.StoreTrail.durable c.following.trail) (g.W.Writer.told c.args.writer.now).taken
-    (g.W.Writer.told c.following.writer).taken c.following.invariant c.in-Ok.next
+    (g.W.Writer.told c.following.writer).taken c.following.invariant c.in-Ok.look.next
     (g.T.StoreTrail.first c.follow_on.new.trail) (g.T.StoreTrail.found c.follow_on.new.trail)
     (g.T.StoreTrail.durable c.follow_on.new.trail)
     (g.W.Writer.told c.follow_on.new.writer).taken c.in-Ok.ensures.first c.in-Ok.ensures.ok

@@ -9,7 +9,7 @@ use Rattle.hg_types.proofs.Walks.{alloc_all, pass_all, free_all, look_at, sets, 
 use Rattle.hg_types.proofs.Walks.{nothing, Clauses, closing, alive, Meets, triple_of, entered, says, Stays}
 use Rattle.hg_types.proofs.Walks.{stay_dropped, walk_of, ends_at, walk_Meets, Goes-dropped, none, makes_none}
 use Rattle.hg_store.specs.contracts.noted.NotedRecords as NotedRecords
-use Rattle.hg_store.specs.contracts.entry.Standing as Standing
+use Rattle.hg_store.specs.contracts.entry.Passed as Passed
 use Rattle.hg_store.specs.contracts.noted.NotedRecords.and as F
 use Rattle.hg_store.specs.contracts.noted.NotedRecords.and.Key.{name as #self}
 use Rattle.hg_store.proofs.noted.NotedRecords.and.Statement as stated
@@ -62,7 +62,7 @@ module _ {M : Type 1} {𝓤 : Ura M} (𝓛 : Logic 𝓤) (memory : Memory → SP
       walk_Meets 𝓛 F.ended stays (
         Goes-dropped 𝓛 3 (RefOf (0 ∷ []) tt (plain (λ _. NotedRecords.the_row)) (λ _. tt)) yes (λ κs x f. refl),
         (
-          Goes-dropped 𝓛 3 (RefOf (1 ∷ []) tt (plain (λ κs. Standing.the_row (named_lft 3 2 tt κs))) (λ _. tt)) yes
+          Goes-dropped 𝓛 3 (RefOf (1 ∷ []) tt (plain (λ κs. Passed.the_row (named_lft 3 2 tt κs))) (λ _. tt)) yes
               (λ κs x f. refl),
           tt,
         ),
