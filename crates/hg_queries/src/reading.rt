@@ -1,6 +1,6 @@
 //! Commands that only read, each as a question to the repository.
 
-ghost use Rattle.std.specs.Prelude.{◌≡◌, ℕ, List, IfOk, IsTrue};
+ghost use Rattle.std.specs.Prelude.{◌≡◌, ℕ, List, None, IfOk, IfSome};
 ghost use Rattle.std.specs.List.{AllZip};
 ghost use Rattle.hg_parts.specs.Store.{repository_of, IsSound};
 ghost use Rattle.hg_parts.specs.Repository.{Repository};
@@ -17,8 +17,8 @@ use hg_repo::Repo;
 use hg_serve::Question;
 use hg_types::{NoMemory, Seq, Settings};
 use hg_wireproto::{
-    BatchCommand, BranchView, Seen, Since, branchmap_text, heads_text, is_left_to_ids,
-    joined_answers, known_text, listkeys_text, lookup_text,
+    BatchCommand, BranchView, Seen, Since, begun_text, branchmap_text, heads_text, joined_answers,
+    known_text, listkeys_text, lookup_text,
 };
 use std::alloc::{Allocator, Global};
 
@@ -197,27 +197,41 @@ fn piece_of<A: Allocator + Copy>(
     match read {
         Read::Heads => Ok(Piece::AllHeads),
         Read::BranchMap => Ok(Piece::Branches),
-        Read::Lookup if leaves_to_ids(repo, about) => {
-            Ok(Piece::Begun(Seq::copy_of(alloc, about)?))
-        }
-        Read::Known | Read::ListKeys | Read::Lookup => {
-            Ok(Piece::Short(text_of(alloc, repo, read, about)?))
-        }
+        Read::Lookup => match line_of(alloc, repo, about)? {
+            Some(text) => Ok(Piece::Short(text)),
+            None => Ok(Piece::Begun(Seq::copy_of(alloc, about)?)),
+        },
+        Read::Known | Read::ListKeys => Ok(Piece::Short(text_of(alloc, repo, read, about)?)),
     }
 }
 
-/// Whether the ids alone say what a key names.
-fn leaves_to_ids<A: Allocator>(repo: &Repo<A>, key: &[u8]) -> bool
-    ensures { IsTrue result → lookup_text repo.now.rows repo.now.bookmarks key.now ≡ begun_text repo.now.rows key.now }
+/// What `lookup` answers of a key; nothing where only the ids say what it names.
+fn line_of<A: Allocator + Copy>(
+    alloc: A,
+    repo: &Repo<A>,
+    key: &[u8],
+) -> Result<Option<Seq<u8, A>>, NoMemory>
+    ensures told { IfOk result (λ line. IfSome line (λ text.
+        text ≡ lookup_text repo.now.rows repo.now.bookmarks key.now)) }
+    ensures left { IfOk result (λ line. line ≡ None
+        → lookup_text repo.now.rows repo.now.bookmarks key.now ≡ begun_text repo.now.rows key.now) }
 {
-    left_in(repo.settings(), repo.store(), key)
+    line_in(alloc, repo.settings(), repo.store(), key)
 }
 
-fn left_in<A: Allocator>(_settings: &Settings, store: &Store<A>, key: &[u8]) -> bool
-    ensures { let repo = repository_of _settings.now store.now in
-        IsTrue result → lookup_text repo.rows repo.bookmarks key.now ≡ begun_text repo.rows key.now }
+fn line_in<A: Allocator + Copy>(
+    alloc: A,
+    _settings: &Settings,
+    store: &Store<A>,
+    key: &[u8],
+) -> Result<Option<Seq<u8, A>>, NoMemory>
+    ensures told { let repo = repository_of _settings.now store.now in
+        IfOk result (λ line. IfSome line (λ text. text ≡ lookup_text repo.rows repo.bookmarks key.now)) }
+    ensures left { let repo = repository_of _settings.now store.now in
+        IfOk result (λ line. line ≡ None
+        → lookup_text repo.rows repo.bookmarks key.now ≡ begun_text repo.rows key.now) }
 {
-    is_left_to_ids(&store.bookmarks, key)
+    lookup_text(alloc, &store.log, &store.bookmarks, key)
 }
 
 /// Whether one of a batch's commands has a long answer.
@@ -305,8 +319,25 @@ fn text_in<A: Allocator + Copy>(
             settings.publishing,
             about,
         ),
-        Read::Lookup => lookup_text(alloc, log, &store.bookmarks, about),
+        Read::Lookup => lookup_in(alloc, settings, store, about),
         Read::BranchMap => branchmap_text(alloc, &view_of(alloc, settings, store)?),
+    }
+}
+
+/// What `lookup` answers of a key. Where only the ids say it, that is by a view of its own.
+fn lookup_in<A: Allocator + Copy>(
+    alloc: A,
+    settings: &Settings,
+    store: &Store<A>,
+    key: &[u8],
+) -> Result<Seq<u8, A>, NoMemory>
+    requires { IsSound settings.now store.now }
+    ensures { let repo = repository_of settings.now store.now in
+        IfOk result (λ text. text ≡ lookup_text repo.rows repo.bookmarks key.now) }
+{
+    match line_in(alloc, settings, store, key)? {
+        Some(text) => Ok(text),
+        None => begun_text(alloc, &view_of(alloc, settings, store)?, key),
     }
 }
 

@@ -13,7 +13,7 @@ use Rattle.hg_log.specs.Changeset.{Changeset}
 use Rattle.hg_log.specs.HeadCount.{head_count, head_revs, is_childless, is_head}
 use Rattle.hg_keys.specs.Bookmarks.{Pairs}
 use Rattle.hg_status.specs.declared.heads.ShownHead.{ShownHead}
-use Rattle.hg_status.specs.Heads.{names_on, shown_revs, AreOf, IsOf}
+use Rattle.hg_status.specs.Heads.{first_of, names_on, near_heads, shown_revs, AreOf, IsOf}
 use Rattle.hg_status.specs.Name.{name_of}
 use Rattle.hg_status.specs.PushCounts.{sum_of}
 use Rattle.hg_status.specs.code.Giving.{given, AddsIfHead}
@@ -26,17 +26,28 @@ range_more a (suc n) =
     let next : a + 1 + n ≡ a + suc n = omega arith in
     ap (λ (ks : List ℕ). a ∷ ks) (range_more (a + 1) n ∙ ap (λ (k : ℕ). range_with_len (a + 1) n ++ k ∷ []) next)
 
--- those below a number, the highest first
-abbrev pub below : (ℕ → Bool) → ℕ → List ℕ
-below p n = reverse (filter p (range_with_len 0 n))
+-- a stretch of numbers in two
+pub range_parts : (a m n : ℕ) → range_with_len a (m + n) ≡ range_with_len a m ++ range_with_len (a + m) n
+range_parts a zero n =
+    let size : zero + n ≡ n = omega arith in
+    let start : a ≡ a + zero = omega arith in
+    ap (range_with_len a) size ∙ ap (λ (k : ℕ). range_with_len k n) start
+range_parts a (suc m) n =
+    let size : suc m + n ≡ suc (m + n) = omega arith in
+    let start : a + 1 + m ≡ a + suc m = omega arith in
+    ap (range_with_len a) size
+    ∙ ap (λ (ks : List ℕ). a ∷ ks) (range_parts (a + 1) m n
+    ∙ ap (λ (k : ℕ). range_with_len (a + 1) m ++ range_with_len k n) start)
 
-one_below : (p : ℕ → Bool) (n : ℕ) → below p (suc n) ≡ reverse (filter p (n ∷ [])) ++ below p n
-one_below p n =
-    let last : 0 + n ≡ n = omega arith in
-    ap (λ (ks : List ℕ). reverse (filter p ks))
-    (range_more 0 n ∙ ap (λ (k : ℕ). range_with_len 0 n ++ k ∷ []) last)
-    ∙ ap reverse (filter-append p (range_with_len 0 n) (n ∷ []))
-    ∙ reverse-append (filter p (range_with_len 0 n)) (filter p (n ∷ []))
+-- so many from a number on, the highest first
+abbrev pub below : (ℕ → Bool) → ℕ → ℕ → List ℕ
+below p a n = reverse (filter p (range_with_len a n))
+
+one_below : (p : ℕ → Bool) (a n : ℕ) → below p a (suc n) ≡ reverse (filter p ((a + n) ∷ [])) ++ below p a n
+one_below p a n =
+    ap (λ (ks : List ℕ). reverse (filter p ks)) (range_more a n)
+    ∙ ap reverse (filter-append p (range_with_len a n) ((a + n) ∷ []))
+    ∙ reverse-append (filter p (range_with_len a n)) (filter p ((a + n) ∷ []))
 
 kept_one : (b : Bool) (n : ℕ) (ks : List ℕ) → b ≡ true → reverse (cond b (n ∷ []) []) ++ ks ≡ n ∷ ks
 kept_one b n ks is = rw is refl
@@ -44,11 +55,11 @@ kept_one b n ks is = rw is refl
 kept_none : (b : Bool) (n : ℕ) (ks : List ℕ) → b ≡ false → reverse (cond b (n ∷ []) []) ++ ks ≡ ks
 kept_none b n ks is = rw is refl
 
-pub below_with : (p : ℕ → Bool) (n : ℕ) → p n ≡ true → below p (suc n) ≡ n ∷ below p n
-below_with p n is = one_below p n ∙ kept_one (p n) n (below p n) is
+pub below_with : (p : ℕ → Bool) (a n : ℕ) → p (a + n) ≡ true → below p a (suc n) ≡ (a + n) ∷ below p a n
+below_with p a n is = one_below p a n ∙ kept_one (p (a + n)) (a + n) (below p a n) is
 
-pub below_without : (p : ℕ → Bool) (n : ℕ) → p n ≡ false → below p (suc n) ≡ below p n
-below_without p n is = one_below p n ∙ kept_none (p n) n (below p n) is
+pub below_without : (p : ℕ → Bool) (a n : ℕ) → p (a + n) ≡ false → below p a (suc n) ≡ below p a n
+below_without p a n is = one_below p a n ∙ kept_none (p (a + n)) (a + n) (below p a n) is
 
 -- a front that is as long as it may be, or all
 pub front_taken : (most : ℕ) (front rest all : List ℕ) → front ++ rest ≡ all → length front ≤ most
@@ -148,17 +159,27 @@ are_as_many rows phases pairs (r ∷ revs) (h ∷ heads) are =
 pub record AreRead {A : Type 0} (rows : List Changeset) (phases : List Phase) (rev : ℕ) (heads : List (ShownHead A)) :
     Type 0 where
   pub revs : List ℕ
+  pub left : ℕ
+  pub from : rev ≡ first_of rows + left
   pub are : AreOf rows phases [] revs heads
-  pub parts : revs ++ below (is_childless rows) rev ≡ reverse (head_revs rows)
+  pub parts : revs ++ below (is_childless rows) (first_of rows) left ≡ reverse (near_heads rows)
   pub few : length heads ≤ 100
   pub within : rev ≤ length rows
 
 pub none_read : {A : Type 0} (rows : List Changeset) (phases : List Phase) (heads : List (ShownHead A)) → heads ≡ []
     → AreRead rows phases (length rows) heads
-unfolding head_revs
+unfolding near_heads
 none_read {A} rows phases heads none =
     subst (λ (hs : List (ShownHead A)). AreRead rows phases (length rows) hs) (sym none)
-    (record { revs = []; are = tt; parts = refl; few = omega arith; within = omega arith })
+    (record {
+      revs = [];
+      left = length rows - first_of rows;
+      from = omega arith;
+      are = tt;
+      parts = refl;
+      few = omega arith;
+      within = omega arith;
+    })
 
 -- a changeset is a head of the rows where it is nobody's parent
 childless_is : (rows : List Changeset) (rev : ℕ) (b : Bool) → rev < length rows → is_childless rows rev ≡ b
@@ -167,30 +188,43 @@ childless_is rows rev b within is =
     ap (λ (t : Bool). t && is_childless rows rev) (lt-ltb rev (length rows) within) ∙ is
 
 pub one_read : {A : Type 0} (rows : List Changeset) (phases : List Phase) (rev : ℕ) (before after : List (ShownHead A))
-    → AreRead rows phases (suc rev) before → length before < 100 → AddsIfHead rows phases rev before after
-    → AreRead rows phases rev after
-one_read {A} rows phases rev before after read room adds =
+    → first_of rows ≤ rev → AreRead rows phases (suc rev) before → length before < 100
+    → AddsIfHead rows phases rev before after → AreRead rows phases rev after
+one_read {A} rows phases rev before after past read room adds =
     let low : rev < length rows = omega (arith, read.within) in
+    let start = first_of rows in
+    let left : ℕ = rev - start in
+    let here : start + left ≡ rev = omega (arith, past) in
+    let one_more : read.left ≡ suc left = omega (arith, read.from, past) in
+    let parts : read.revs ++ below (is_childless rows) start (suc left) ≡ reverse (near_heads rows) =
+    subst (λ (n : ℕ). read.revs ++ below (is_childless rows) start n ≡ reverse (near_heads rows)) one_more read.parts in
     elim (cases_Bool (is_childless rows rev)) [
       | inl passes ↦
           let one = adds.0 (childless_is rows rev true low passes) in
           let long : length after ≡ length before + 1 = ap length one.2 ∙ length_push before one.0 in
+          let with : below (is_childless rows) start (suc left) ≡ rev ∷ below (is_childless rows) start left =
+          below_with (is_childless rows) start left (ap (is_childless rows) here ∙ passes)
+          ∙ ap (λ (n : ℕ). n ∷ below (is_childless rows) start left) here in
           record {
             revs = read.revs ++ rev ∷ [];
+            left = left;
+            from = sym here;
             are = subst (λ (hs : List (ShownHead A)). AreOf rows phases [] (read.revs ++ rev ∷ []) hs) (sym one.2)
                 (are_more rows phases [] read.revs before rev one.0 read.are one.1);
-            parts = append_assoc read.revs (rev ∷ []) (below (is_childless rows) rev)
-                ∙ ap (λ (ks : List ℕ). read.revs ++ ks) (sym (below_with (is_childless rows) rev passes))
-                ∙ read.parts;
+            parts = append_assoc read.revs (rev ∷ []) (below (is_childless rows) start left)
+                ∙ ap (λ (ks : List ℕ). read.revs ++ ks) (sym with) ∙ parts;
             few = omega (arith, long, room);
             within = omega (arith, low);
           }
       | inr fails ↦
           let same = adds.1 (childless_is rows rev false low fails) in
+          let without = below_without (is_childless rows) start left (ap (is_childless rows) here ∙ fails) in
           record {
             revs = read.revs;
+            left = left;
+            from = sym here;
             are = subst (λ (hs : List (ShownHead A)). AreOf rows phases [] read.revs hs) (sym same) read.are;
-            parts = ap (λ (ks : List ℕ). read.revs ++ ks) (sym (below_without (is_childless rows) rev fails)) ∙ read.parts;
+            parts = ap (λ (ks : List ℕ). read.revs ++ ks) (sym without) ∙ parts;
             few = omega (arith, ap length same, read.few);
             within = omega (arith, low);
           }
@@ -198,23 +232,48 @@ one_read {A} rows phases rev before after read room adds =
 
 -- what is read are the heads that are shown, once there are as many as are to be, or no more changesets
 pub all_read : {A : Type 0} (rows : List Changeset) (phases : List Phase) (rev : ℕ) (heads : List (ShownHead A))
-    → AreRead rows phases rev heads → min (length (head_revs rows)) 100 ≤ length heads
+    → AreRead rows phases rev heads → min (length (near_heads rows)) 100 ≤ length heads
     → AreOf rows phases [] (shown_revs rows) heads
 unfolding shown_revs
 all_read {A} rows phases rev heads read enough =
     let long = are_as_many rows phases [] read.revs heads read.are in
-    let all : length (reverse (head_revs rows)) ≡ length (head_revs rows) = length-reverse (head_revs rows) in
+    let all : length (reverse (near_heads rows)) ≡ length (near_heads rows) = length-reverse (near_heads rows) in
     subst (λ (rs : List ℕ). AreOf rows phases [] rs heads)
-    (sym (front_taken 100 read.revs (below (is_childless rows) rev) (reverse (head_revs rows)) read.parts
-    (omega (arith, long, read.few)) (omega (arith, long, all, enough))))
+    (sym (front_taken 100 read.revs (below (is_childless rows) (first_of rows) read.left) (reverse (near_heads rows))
+    read.parts (omega (arith, long, read.few)) (omega (arith, long, all, enough))))
     read.are
 
 -- all of them
-pub none_left : {A : Type 0} (rows : List Changeset) (phases : List Phase) (heads : List (ShownHead A))
-    → AreRead rows phases 0 heads → length heads ≡ length (head_revs rows)
-none_left rows phases heads read =
+pub none_left : {A : Type 0} (rows : List Changeset) (phases : List Phase) (rev : ℕ) (heads : List (ShownHead A))
+    → rev ≤ first_of rows → AreRead rows phases rev heads → length heads ≡ length (near_heads rows)
+none_left rows phases rev heads past read =
+    let none : read.left ≡ 0 = omega (arith, read.from, past) in
+    let whole : read.revs ++ [] ≡ reverse (near_heads rows) =
+    subst (λ (n : ℕ). read.revs ++ below (is_childless rows) (first_of rows) n ≡ reverse (near_heads rows)) none
+    read.parts in
     are_as_many rows phases [] read.revs heads read.are
-    ∙ ap length (sym (append-nil read.revs) ∙ read.parts) ∙ length-reverse (head_revs rows)
+    ∙ ap length (sym (append-nil read.revs) ∙ whole) ∙ length-reverse (near_heads rows)
+
+-- they are no more than all heads
+near_fewer : (rows : List Changeset) → length (near_heads rows) ≤ length (head_revs rows)
+unfolding near_heads head_revs
+near_fewer rows =
+    let test = is_childless rows in
+    let start = first_of rows in
+    let rest : ℕ = length rows - start in
+    let size : start + rest ≡ length rows = omega arith in
+    let whole : filter test (range_with_len 0 (length rows))
+    ≡ filter test (range_with_len 0 start) ++ filter test (range_with_len start rest) =
+    ap (λ (n : ℕ). filter test (range_with_len 0 n)) (sym size)
+    ∙ ap (filter test) (range_parts 0 start rest)
+    ∙ filter-append test (range_with_len 0 start) (range_with_len (0 + start) rest)
+    ∙ ap (λ (k : ℕ). filter test (range_with_len 0 start) ++ filter test (range_with_len k rest))
+    (omega arith) in
+    omega (
+      arith,
+      ap length whole,
+      length-append (filter test (range_with_len 0 start)) (filter test (range_with_len start rest)),
+    )
 
 -- ---- a bookmark is given to the heads
 
@@ -341,8 +400,10 @@ no_more pairs i len none low =
     take_all i pairs long ∙ sym (take_all len pairs (omega (arith, long, low)))
 
 -- there are as many heads to be shown as there are heads, or more
-pub count_enough : (rows : List Changeset) → length (head_revs rows) ≤ head_count rows
+pub count_enough : (rows : List Changeset) → length (near_heads rows) ≤ head_count rows
 unfolding head_count
 count_enough rows =
     let count = length (head_revs rows) in
-    cond_both (count == 0) 1 count (λ (n : ℕ). count ≤ n) (λ e. omega (arith, eqb-true count 0 e)) (λ e. omega arith)
+    let all : count ≤ cond (count == 0) 1 count =
+    cond_both (count == 0) 1 count (λ (n : ℕ). count ≤ n) (λ e. omega (arith, eqb-true count 0 e)) (λ e. omega arith) in
+    omega (arith, all, near_fewer rows)

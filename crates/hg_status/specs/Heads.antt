@@ -1,9 +1,10 @@
 -- What is shown of a head.
 use Rattle.std.specs.Prelude.{◌≡◌, ℕ, ◌-◌, ◌==◌, List, [], ◌∷◌, length, min, take, reverse, map, filter, count_by}
 use Rattle.std.specs.Prelude.{bytes_eq, nat_lt, Option, None, Some, if◌then◌else◌, ⊤}
+use Rattle.std.specs.List.{range_with_len}
 use Rattle.hg_types.specs.declared.phase.Phase.{Phase}
 use Rattle.hg_log.specs.Changeset.{Changeset}
-use Rattle.hg_log.specs.HeadCount.{head_revs}
+use Rattle.hg_log.specs.HeadCount.{is_childless}
 use Rattle.hg_log.specs.Rows.{HasNode, HasText}
 use Rattle.hg_phases.specs.Order.{phase_at}
 use Rattle.hg_keys.specs.Bookmarks.{Pairs}
@@ -49,6 +50,14 @@ AreOf rows phases pairs (rev ∷ revs) (head ∷ heads) =
     IsOf rows phases pairs rev head × AreOf rows phases pairs revs heads
 AreOf rows phases pairs revs heads = ⊥
 
--- the changesets whose heads are shown: of those that are nobody's parent the last hundred, the last first
+-- the number from which on changesets are looked at: the last hundred thousand are
+abbrev pub first_of : List Changeset → ℕ
+first_of rows = length rows - 100000
+
+-- of the changesets from there on, those that are nobody's parent
+unfoldable pub near_heads : List Changeset → List ℕ
+near_heads rows = filter (is_childless rows) (range_with_len (first_of rows) (length rows - first_of rows))
+
+-- the changesets whose heads are shown: the last hundred of these, the last first
 unfoldable pub shown_revs : List Changeset → List ℕ
-shown_revs rows = take 100 (reverse (head_revs rows))
+shown_revs rows = take 100 (reverse (near_heads rows))

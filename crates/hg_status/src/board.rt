@@ -5,7 +5,7 @@ ghost use Rattle.hg_phases.specs.Counts.{counts_of};
 ghost use Rattle.hg_parts.specs.Store.{repository_of, IsSound};
 ghost use Rattle.hg_status.specs.Holdings.{AreCounted, AreShown};
 
-use crate::holdings::holdings_of;
+use crate::holdings::{Holdings, count_holdings, holdings_of};
 use crate::metrics::metrics_text;
 use crate::page::page_text;
 use crate::push::Push;
@@ -100,28 +100,18 @@ impl<'a, R: Wait + Clock> Board<'a, R> {
         Ok((*tally.counters(), Seq::from_vec(recent)))
     }
 
-    /// All that is shown of this repository.
+    /// All that is shown of this repository, which holds that much.
     fn summary<A: Allocator + Copy>(
         &self,
         alloc: A,
         settings: &Settings,
         store: &Store<A>,
+        holdings: Holdings<A>,
     ) -> Result<Summary<A>, NoMemory>
-        requires { IsSound settings.now store.now }
         ensures publishing { IfOk result (λ summary. summary.publishing ≡ settings.now.publishing) }
-        ensures holdings { IfOk result (λ summary. AreCounted store.now.log.rows store.now.markers
-            store.now.bookmarks.current summary.holdings) }
-        ensures heads { IfOk result (λ summary. AreShown store.now.log.rows store.now.phases.current.phases
-            store.now.bookmarks.current summary.holdings) }
+        ensures holdings { IfOk result (λ summary. summary.holdings ≡ holdings) }
         ensures phases { IfOk result (λ summary. summary.phases ≡ counts_of store.now.phases.current.phases) }
     {
-        let holdings = holdings_of(
-            alloc,
-            &store.log,
-            &store.phases,
-            &store.markers,
-            &store.bookmarks,
-        )?;
         let (counters, recent) = self.pushes(alloc)?;
         Ok(Summary {
             time: seconds_now(self.rt),
@@ -137,6 +127,27 @@ impl<'a, R: Wait + Clock> Board<'a, R> {
     }
 }
 
+/// What the page shows of a repository.
+fn holdings_in<A: Allocator + Copy>(
+    alloc: A,
+    _settings: &Settings,
+    store: &Store<A>,
+) -> Result<Holdings<A>, NoMemory>
+    requires { IsSound _settings.now store.now }
+    ensures counted { IfOk result (λ holdings. AreCounted store.now.log.rows store.now.markers
+        store.now.bookmarks.current holdings) }
+    ensures shown { IfOk result (λ holdings. AreShown store.now.log.rows store.now.phases.current.phases
+        store.now.bookmarks.current holdings) }
+{
+    holdings_of(
+        alloc,
+        &store.log,
+        &store.phases,
+        &store.markers,
+        &store.bookmarks,
+    )
+}
+
 impl<R: Wait + Clock, A: Allocator + Copy> Shown<A> for Board<'_, R> {
     ghost use Rattle.hg_status.specs.declared.page.TheConstants.{TOP};
     ghost use Rattle.hg_status.specs.Showing.{ArePageMetrics, IsRepositoryPage};
@@ -146,12 +157,15 @@ impl<R: Wait + Clock, A: Allocator + Copy> Shown<A> for Board<'_, R> {
     ghost are_metrics = { λ board repo text. ArePageMetrics repo text };
 
     fn page(&self, alloc: A, repo: &Repo<A>) -> Result<Seq<u8, A>, NoMemory> {
-        let summary = self.summary(alloc, repo.settings(), repo.store())?;
+        let holdings = holdings_in(alloc, repo.settings(), repo.store())?;
+        let summary = self.summary(alloc, repo.settings(), repo.store(), holdings)?;
         page_text(alloc, &summary)
     }
 
     fn metrics(&self, alloc: A, repo: &Repo<A>) -> Result<Seq<u8, A>, NoMemory> {
-        let summary = self.summary(alloc, repo.settings(), repo.store())?;
+        let store = repo.store();
+        let holdings = count_holdings(alloc, &store.log, &store.markers, &store.bookmarks);
+        let summary = self.summary(alloc, repo.settings(), store, holdings)?;
         metrics_text(alloc, &summary)
     }
 }

@@ -17,6 +17,9 @@ use std::alloc::{Allocator, Global};
 /// How many bookmarks are looked at for those on shown heads.
 const LOOKED_AT: usize = 10_000;
 
+/// How many changesets are looked at for heads that are shown: the last ones.
+const LOOKS: usize = 100_000;
+
 /// What is shown of a repository: how much it holds, and its last heads.
 #[derive(Drop)]
 pub struct Holdings<A: Allocator = Global> {
@@ -25,7 +28,7 @@ pub struct Holdings<A: Allocator = Global> {
     pub heads: u64,
     pub bookmarks: u64,
     pub markers: u64,
-    /// The last heads in the order of the changelog, the last first: at most 100.
+    /// The last heads in the order of the changelog, the last first: at most 100, of the last 100,000 changesets.
     pub shown: Seq<ShownHead<A>, A>,
     /// How many bookmarks, the first in the order of their names, were looked at for those on shown heads: at
     /// most 10,000.
@@ -34,7 +37,7 @@ pub struct Holdings<A: Allocator = Global> {
 
 /// What is shown of a repository. It costs by what is kept: a hundred heads, at most 4 KiB of the text of each,
 /// and a look at 10,000 bookmarks; and by a look, in the order of numbers, at the changesets down to the last of
-/// these heads.
+/// these heads, at most 100,000.
 pub fn holdings_of<A: Allocator + Copy>(
     alloc: A,
     log: &Changelog<A>,
@@ -50,14 +53,41 @@ pub fn holdings_of<A: Allocator + Copy>(
     let mut heads = read_heads(alloc, log, phases)?;
     let looked_at = bookmarks.len().min(LOOKED_AT);
     add_bookmarks(alloc, &mut heads, bookmarks, looked_at)?;
-    Ok(Holdings {
+    Ok(holding(log, markers, bookmarks, Seq::from_vec(heads), looked_at))
+}
+
+/// How much a repository holds, without its heads. It costs the same however much that is.
+pub fn count_holdings<A: Allocator + Copy>(
+    alloc: A,
+    log: &Changelog<A>,
+    markers: &Markers<A>,
+    bookmarks: &Bookmarks<A>,
+) -> Holdings<A>
+    ensures { AreCounted log.now.rows markers.now bookmarks.now.current result }
+{
+    holding(log, markers, bookmarks, Seq::new(alloc), 0)
+}
+
+/// How much a repository holds, with these heads.
+fn holding<A: Allocator>(
+    log: &Changelog<A>,
+    markers: &Markers<A>,
+    bookmarks: &Bookmarks<A>,
+    shown: Seq<ShownHead<A>, A>,
+    looked_at: usize,
+) -> Holdings<A>
+    ensures counted { AreCounted log.now.rows markers.now bookmarks.now.current result }
+    ensures shown { result.shown ≡ shown }
+    ensures looked_at { result.looked_at ≡ looked_at }
+{
+    Holdings {
         changesets: log.len() as u64,
         heads: count_heads(log),
         bookmarks: bookmarks.len() as u64,
         markers: markers.list().len() as u64,
-        shown: Seq::from_vec(heads),
+        shown,
         looked_at: looked_at as u64,
-    })
+    }
 }
 
 /// How many changesets are nobody's parent.
@@ -73,7 +103,7 @@ fn count_heads<A: Allocator>(log: &Changelog<A>) -> u64
 }
 
 /// The heads that are shown, without their bookmarks. It goes down from the last changeset, and stops once it has
-/// as many heads as are shown, or all.
+/// as many heads as are shown, or all, or has looked at as many changesets as it may.
 fn read_heads<A: Allocator + Copy>(
     alloc: A,
     log: &Changelog<A>,
@@ -85,7 +115,8 @@ fn read_heads<A: Allocator + Copy>(
 {
     let wanted = log.head_count().min(HEADS);
     let mut heads = Vec::new(alloc);
-    for rev in (0..log.len()).rev() {
+    let first = log.len().saturating_sub(LOOKS);
+    for rev in (first..log.len()).rev() {
         if heads.len() >= wanted {
             return Ok(heads);
         }

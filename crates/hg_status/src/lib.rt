@@ -45,7 +45,7 @@ pub use board::{Board, millis_now};
 pub use brought::brought_by;
 pub use date::{Date, date_of};
 pub use hg_queries::Dismissal;
-pub use holdings::{Holdings, ShownHead, holdings_of};
+pub use holdings::{Holdings, ShownHead, count_holdings, holdings_of};
 pub use laws::shown_names_are_harmless;
 pub use line::{dismissal_line, log_line};
 pub use metrics::metrics_text;

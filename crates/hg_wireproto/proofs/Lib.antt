@@ -19,6 +19,7 @@ mod Mapping
 mod Viewing
 mod Coming
 mod Covering
+mod Doubts
 mod Uncovering
 mod HeadIds
 mod OrderedIds

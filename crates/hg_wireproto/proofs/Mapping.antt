@@ -19,17 +19,18 @@ use Rattle.std.proofs.lemmas.Map.Entries.{lookup_from_place, place_from_lookup}
 use Rattle.std.proofs.lemmas.Map.Keys.{IsDistinct-from_sorted, sorted_from_strictly_increasing}
 use Rattle.std.proofs.lemmas.Option.{get_or_from_slice_get, slice_get-get_or, slice_get-map, slice_get_within}
 use Rattle.std.specs.Option.{option_map}
+use Rattle.hg_log.specs.Ancestors.{IsAncestor}
 use Rattle.hg_log.specs.Changeset.{Changeset}
 use Rattle.hg_log.specs.Parents.{is_ancestor, parents_of}
 use Rattle.hg_log.specs.Rows.{AreLawful}
-use Rattle.hg_log.proofs.CallerLemmas.{ancestor_leads, ancestor_test, not_later, ordered}
+use Rattle.hg_log.proofs.CallerLemmas.{ancestor_leads, ancestor_test, leads_ancestor, leads_on, not_later, ordered}
 use Rattle.hg_types.specs.declared.phase.Phase.{Phase}
 use Rattle.hg_obs.specs.declared.marker.Marker.{Marker}
 use Rattle.hg_wireproto.specs.BranchMap.{branch_line, AreBranchHeads, IsBranchHead, IsBranchMap, IsOfBranch}
-use Rattle.hg_wireproto.specs.Hidden.{AreHidden}
 use Rattle.hg_wireproto.specs.code.Branches.{branch_at, heads_in, if_any, is_last_in, is_member, is_name, members}
 use Rattle.hg_wireproto.specs.code.Branches.{AreBranches}
 use Rattle.hg_wireproto.specs.code.Covered.{AreCovered}
+use Rattle.hg_wireproto.specs.code.Doubt.{AreCandidates}
 use Rattle.hg_wireproto.proofs.Branching.{name_same, same_name}
 use Rattle.hg_wireproto.proofs.Covering.{branch_is, is_of}
 use Rattle.hg_wireproto.proofs.BranchSets.{any_found, any_holds, both_true, eq_not, not_eq, true_both}
@@ -145,16 +146,24 @@ revs_within rows out n seen bs kept k d low =
     subst (λ (e : List ℕ × List ℕ). All (λ r. r < n) e.1) (get_or-map seen bs k d (seen d) low)
     (rows_within rows out n (map seen bs) kept k (seen d) (subst (λ m. k < m) (sym (length-map bs seen)) low))
 
+pub revs_are : {X : Type 0} (rows : List Changeset) (out : List Bool) (n : ℕ) (seen : X → List ℕ × List ℕ)
+    (bs : List X) → AreBranches rows out n (map seen bs) → (k : ℕ) (d : X) → k < length bs
+    → (seen (get_or bs k d)).1 ≡ members rows out n (seen (get_or bs k d)).0
+revs_are rows out n seen bs kept k d low =
+    subst (λ (e : List ℕ × List ℕ). e.1 ≡ members rows out n e.0) (get_or-map seen bs k d (seen d) low)
+    (some_any _ _ (entry_is rows out n (map seen bs) kept k (seen d)
+    (subst (λ m. k < m) (sym (length-map bs seen)) low)))
+
 -- the rows of a branch that are not left out
 module _ (rows : List Changeset) (out : List Bool) (n : ℕ) (name : List ℕ) where
-  has_member : (r : ℕ) → r < n → get_or out r false ≡ false → branch_at rows r ≡ name
+  pub has_member : (r : ℕ) → r < n → get_or out r false ≡ false → branch_at rows r ≡ name
       → Contains (members rows out n name) r
   has_member r low is named =
       has_filter (is_member rows out name) (range_with_len 0 n) r (range_has n r low)
       (true_both (not (get_or out r false)) (is_name name (branch_at rows r)) (ap not is)
       (ap (is_name name) named ∙ name_same name))
 
-  in_members : (r : ℕ) → Contains (members rows out n name) r
+  pub in_members : (r : ℕ) → Contains (members rows out n name) r
       → (r < n) × (get_or out r false ≡ false) × (branch_at rows r ≡ name)
   in_members r has =
       let f = filter_has (is_member rows out name) (range_with_len 0 n) r has in
@@ -167,64 +176,70 @@ module _ (rows : List Changeset) (out : List Bool) (n : ℕ) (name : List ℕ) w
   members_sorted : IsStrictlySortedBy nat_cmp (members rows out n name)
   members_sorted = IsStrictlySortedBy-filter nat_cmp (is_member rows out name) (range_with_len 0 n) (range_sorted n)
 
-never_true : (b : Bool) → (b ≡ true → ⊥) → b ≡ false
+pub never_true : (b : Bool) → (b ≡ true → ⊥) → b ≡ false
 never_true true never = absurd (never refl)
 never_true false never = refl
 
 -- ---- heads found anew
 
-module _ {A : Type 0} (rows : List Changeset) (markers : List (Marker A)) (phases : List Phase) (hidden : List Bool)
-    (told : AreHidden rows markers phases hidden) (lawful : AreLawful rows) where
-  shown_member : (name : List ℕ) (r : ℕ) → Contains (members rows hidden (length rows) name) r
+module _ {A : Type 0} (rows : List Changeset) (markers : List (Marker A)) (phases : List Phase) (out : List Bool)
+    (are : AreCandidates rows markers phases out) (lawful : AreLawful rows) where
+  shown_member : (name : List ℕ) (r : ℕ) → Contains (members rows out (length rows) name) r
       → IsOfBranch rows markers phases name r
   shown_member name r has =
-      let is = in_members rows hidden (length rows) name r has in
-      is_of rows markers phases name r is.0 is.2 (λ hid. let f = sym is.1 ∙ (told.each r is.0).1 hid in cc)
+      let is = in_members rows out (length rows) name r has in
+      is_of rows markers phases name r is.0 is.2 (are.shown r is.0 is.1)
 
-  member_shown : (name : List ℕ) (r : ℕ) → IsOfBranch rows markers phases name r
-      → Contains (members rows hidden (length rows) name) r
-  member_shown name r of =
-      let at = branch_is rows markers phases name r of in
-      has_member rows hidden (length rows) name r at.0
-      (never_true (get_or hidden r false) (λ e. of.shown ((told.each r at.0).0 e))) at.1
+  later : (a d : ℕ) → IsAncestor rows a d → a ≤ d
+  later a d leads = not_later (parents_of rows) (ordered rows lawful) a d (ancestor_leads rows lawful a d leads)
 
-  head_in : (name : List ℕ) (r : ℕ) → Contains (heads_in rows (members rows hidden (length rows) name)) r
+  head_in : (name : List ℕ) (r : ℕ) → Contains (heads_in rows (members rows out (length rows) name)) r
       → IsBranchHead rows markers phases name r
   head_in name r has =
-      let revs = members rows hidden (length rows) name in
+      let revs = members rows out (length rows) name in
       let f = filter_has (is_last_in rows revs) revs r has in
       record {
         of_branch = shown_member name r f.0;
         last = λ d of leads. elim (cases_eq d r) [
           | inl e ↦ e
-          | inr ne ↦ absurd (
+          | inr ne ↦ absurd (are.below name d of (λ e low is named more.
+              let whole = leads_ancestor rows lawful r e low
+              (leads_on (parents_of rows) r d e (ancestor_leads rows lawful r d leads)
+              (ancestor_leads rows lawful d e more)) in
+              let apart = λ (same : e ≡ r). ne (omega (arith, same, later r d leads, later d e more)) in
               let test = λ (d : ℕ). is_ancestor rows r d && not (d == r) in
-              let yes = any_holds test revs d (member_shown name d of)
-              (true_both (is_ancestor rows r d) (not (d == r))
-              ((ancestor_test rows lawful r d).1 leads) (eq_not d r ne)) in
-              let f2 = sym f.1 ∙ ap not yes in cc)
+              let yes = any_holds test revs e (has_member rows out (length rows) name e low is named)
+              (true_both (is_ancestor rows r e) (not (e == r))
+              ((ancestor_test rows lawful r e).1 whole) (eq_not e r apart)) in
+              let f2 = sym f.1 ∙ ap not yes in cc))
         ];
       }
 
+  head_member_of : (name : List ℕ) (r : ℕ) → IsBranchHead rows markers phases name r
+      → Contains (members rows out (length rows) name) r
+  head_member_of name r head =
+      let at = branch_is rows markers phases name r head.of_branch in
+      has_member rows out (length rows) name r at.0 (are.heads name r head) at.1
+
   in_heads : (name : List ℕ) (r : ℕ) → IsBranchHead rows markers phases name r
-      → Contains (heads_in rows (members rows hidden (length rows) name)) r
+      → Contains (heads_in rows (members rows out (length rows) name)) r
   in_heads name r head =
-      let revs = members rows hidden (length rows) name in
-      has_filter (is_last_in rows revs) revs r (member_shown name r head.of_branch)
+      let revs = members rows out (length rows) name in
+      has_filter (is_last_in rows revs) revs r (head_member_of name r head)
       (ap not (never_true (list_any (λ d. is_ancestor rows r d && not (d == r)) revs) (λ is.
       let f = any_found (λ d. is_ancestor rows r d && not (d == r)) revs is in
       let parts = both_true (is_ancestor rows r f.0) (not (f.0 == r)) f.2 in
       not_eq f.0 r parts.1
       (head.last f.0 (shown_member name f.0 f.1) ((ancestor_test rows lawful r f.0).0 parts.0)))))
 
-  module _ (es : List (List ℕ × List ℕ)) (kept : AreBranches rows hidden (length rows) es) where
+  module _ (es : List (List ℕ × List ℕ)) (kept : AreBranches rows out (length rows) es) where
     head_listed : (r : ℕ) → Contains (flat_map (λ e. heads_in rows e.1) es) r
         → (r < length rows) × IsBranchHead rows markers phases (branch_at rows r) r
     head_listed r has =
         let f = has_flat (λ (e : List ℕ × List ℕ). heads_in rows e.1) es r has in
         let e = get_or es f.0 f.1 in
         let head = head_in e.0 r (subst (λ rs. Contains (heads_in rows rs) r)
-        (some_any e.1 _ (entry_is rows hidden (length rows) es kept f.0 f.1 f.2)) f.3) in
+        (some_any e.1 _ (entry_is rows out (length rows) es kept f.0 f.1 f.2)) f.3) in
         let at = branch_is rows markers phases e.0 r head.of_branch in
         (at.0, subst (λ name. IsBranchHead rows markers phases name r) (sym at.1) head)
 
@@ -232,24 +247,25 @@ module _ {A : Type 0} (rows : List Changeset) (markers : List (Marker A)) (phase
         → Contains (flat_map (λ e. heads_in rows e.1) es) r
     listed_head r head =
         let name = branch_at rows r in
-        let found = kept.each name ∙ any_some _ r (member_shown name r head.of_branch) in
+        let found = kept.each name ∙ any_some _ r (head_member_of name r head) in
         let place = place_from_lookup (is_name name) es _ found in
-        let d : List ℕ × List ℕ = (place.1, members rows hidden (length rows) name) in
+        let d : List ℕ × List ℕ = (place.1, members rows out (length rows) name) in
         let low = slice_get_within es place.0 d place.2 in
         let at : get_or es place.0 d ≡ d = get_or_from_slice_get es place.0 d d place.2 in
         flat_has (λ (e : List ℕ × List ℕ). heads_in rows e.1) es place.0 d r low
         (subst (λ (e : List ℕ × List ℕ). Contains (heads_in rows e.1) r) (sym at) (in_heads name r head))
 
-    pub listed_within : (heads : List ℕ) (n : ℕ) → heads ≡ flat_map (λ e. heads_in rows e.1) es → n ≡ length rows
+    pub listed_within : (heads : List ℕ) (n : ℕ)
+        → ((r : ℕ) → Contains heads r ↔ Contains (flat_map (λ e. heads_in rows e.1) es) r) → n ≡ length rows
         → All (λ r. r < n) heads
     listed_within heads n are long k d low =
         let r = get_or heads k d in
         let has : Contains heads r = (k, low, get_or_default heads k r d low) in
-        let within = (head_listed r (subst (λ (hs : List ℕ). Contains hs r) are has)).0 in
+        let within = (head_listed r ((are r).0 has)).0 in
         omega (arith, within, long)
 
     pub covered_by : (heads : List ℕ) (all covered : List Bool)
-        → heads ≡ flat_map (λ e. heads_in rows e.1) es → length all ≡ length rows
+        → ((r : ℕ) → Contains heads r ↔ Contains (flat_map (λ e. heads_in rows e.1) es) r) → length all ≡ length rows
         → ((r : ℕ) → r < length rows → get_or all r false ≡ false → ⊥) → length covered ≡ length all
         → ((r : ℕ) → (get_or covered r false ≡ false) ↔ ((get_or all r false ≡ false) ⊎ Contains heads r))
         → AreCovered rows markers phases covered
@@ -258,9 +274,9 @@ module _ {A : Type 0} (rows : List Changeset) (markers : List (Marker A)) (phase
       each = λ r low. (
         λ is. elim ((each r).0 is) [
           | inl e ↦ absurd (whole r low e)
-          | inr has ↦ (head_listed r (subst (λ (hs : List ℕ). Contains hs r) are has)).1
+          | inr has ↦ (head_listed r ((are r).0 has)).1
         ],
-        λ head. (each r).1 (inr (subst (λ (hs : List ℕ). Contains hs r) (sym are) (listed_head r head))),
+        λ head. (each r).1 (inr ((are r).1 (listed_head r head))),
       );
     }
 

@@ -3,6 +3,7 @@ pub mod Hiding
 pub mod Branches
 pub mod Viewed
 pub mod Covered
+pub mod Doubt
 pub mod HeadIds
 pub mod Ids
 pub mod Kept

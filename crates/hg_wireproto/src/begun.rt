@@ -39,7 +39,7 @@ fn is_lower_digit(byte: u8) -> bool
     (b'0' <= byte && byte <= b'9') || (b'a' <= byte && byte <= b'f')
 }
 
-/// What `lookup` answers of a key that only the ids can name ([`is_left_to_ids`](crate::is_left_to_ids)): the one
+/// What `lookup` answers of a key that only the ids can name ([`lookup_text`](crate::lookup_text) has no line): the one
 /// changeset whose digits it begins. It costs two look-ups among the ids, which the view keeps in their order.
 #[tactic(auto, unfolding(crate::specs::Lookup::begun_text))]
 pub fn begun_text<A: Allocator + Copy>(
@@ -103,7 +103,7 @@ fn begun(key: &[u8], id: Option<Node>) -> Option<Node>
 }
 
 /// Whether a key begins the lower-case digits of an id.
-pub fn begins_digits(key: &[u8], node: &Node) -> bool
+fn begins_digits(key: &[u8], node: &Node) -> bool
     ensures { result ≡ starts_with nat_eq (encode_lower node.now.0) key.now }
 {
     digits_of(node).as_slice().starts_with(key)

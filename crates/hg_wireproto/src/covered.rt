@@ -11,25 +11,30 @@ ghost use Rattle.hg_wireproto.specs.code.Covered.{AreCovered};
 use crate::behind::{add_sets, no_sets, sets_behind};
 use crate::branches::{Branch, branches_of};
 use crate::copied::Copied;
-use crate::hidden::hidden_in;
+use crate::doubt::{left_out, push_told};
+use crate::hidden::hidden_with;
 use hg_types::NoMemory;
 use std::alloc::Allocator;
 
 /// How many branches one pass over the changesets looks at.
 const BRANCHES: usize = 64;
 
-/// For each changeset, whether it is no head of its branch. It is one pass over the changesets for each 64 branches,
-/// beside five.
+/// For each changeset, whether it is no head of its branch. It is five passes over the changesets, and one more for each
+/// 64 branches that are in doubt ([`push_told`]).
 pub fn covered_changesets<A: Allocator + Copy>(
     alloc: A,
     copied: &Copied<A>,
 ) -> Result<Vec<bool, A>, NoMemory>
     ensures { IfOk result (λ covered. AreCovered copied.now.rows copied.now.markers copied.now.phases covered.items) }
 {
-    let hidden = hidden_in(alloc, copied)?;
-    let branches = branches_of(alloc, copied, hidden.as_slice())?;
+    let kept = copied.kept();
+    let behind = sets_behind(alloc, copied, kept)?;
+    let hidden = hidden_with(alloc, copied, kept, behind.as_slice())?;
+    let out = left_out(alloc, copied, hidden.as_slice())?;
+    let branches = branches_of(alloc, copied, out.as_slice())?;
     let mut heads = Vec::new(alloc);
-    push_heads(alloc, &mut heads, copied, branches.as_slice())?;
+    let doubtful = push_told(alloc, &mut heads, copied, behind.as_slice(), branches)?;
+    push_heads(alloc, &mut heads, copied, doubtful.as_slice())?;
     let mut covered = all_covered(alloc, copied.len())?;
     uncover(&mut covered, heads.as_slice());
     Ok(covered)

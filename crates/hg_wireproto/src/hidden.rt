@@ -1,9 +1,10 @@
 //! Which changesets are hidden.
 
-ghost use Rattle.std.specs.Prelude.{◌≡◌, ◌↔◌, ◌<◌, length, IfOk, IsTrue};
+ghost use Rattle.std.specs.Prelude.{◌≡◌, ◌↔◌, ◌<◌, ℕ, length, slice_index, IfOk, IsTrue};
 ghost use Rattle.std.specs.Int.{bit_at};
 ghost use Rattle.hg_phases.specs.Order.{phase_at};
 ghost use Rattle.hg_wireproto.specs.Hidden.{is_public as told_public, AreHidden};
+ghost use Rattle.hg_wireproto.specs.code.Behind.{AreBehind};
 ghost use Rattle.hg_wireproto.specs.code.Hiding.{TellsKept};
 
 use crate::behind::sets_behind;
@@ -36,6 +37,22 @@ pub fn hidden_in<A: Allocator + Copy>(
 {
     let kept = copied.kept();
     let behind = sets_behind(alloc, copied, kept)?;
+    hidden_with(alloc, copied, kept, behind.as_slice())
+}
+
+/// The same, where it is known which changesets are kept, and which have descendants that are.
+pub fn hidden_with<A: Allocator + Copy>(
+    alloc: A,
+    copied: &Copied<A>,
+    kept: &[u64],
+    behind: &[u64],
+) -> Result<Seq<bool, A>, NoMemory>
+    requires len { length kept.now ≡ length copied.now.rows }
+    requires kept { (r : ℕ) → r < length copied.now.rows
+        → TellsKept copied.now.rows copied.now.markers copied.now.phases r (slice_index kept.now r) }
+    requires behind { AreBehind copied.now.rows kept.now behind.now }
+    ensures { IfOk result (λ hidden. AreHidden copied.now.rows copied.now.markers copied.now.phases hidden) }
+{
     let mut hidden = Vec::new(alloc);
     for rev in 0..copied.len() {
         hidden.push(is_hidden(kept[rev], behind[rev]))?;

@@ -1,15 +1,15 @@
 //! The answer to `lookup`: the changeset that a key names.
 
-ghost use Rattle.std.specs.Prelude.{◌≡◌, List, [], map, IfOk, IsTrue, filter};
+ghost use Rattle.std.specs.Prelude.{◌≡◌, List, [], None, false, map, IfOk, IfSome, IsTrue};
 ghost use Rattle.hg_log.specs.Changeset.{Changeset};
-ghost use Rattle.hg_wireproto.specs.Lookup.{begun_by as begins, id_or, is_begun, known_of as known_id};
+ghost use Rattle.hg_wireproto.specs.Lookup.{known_of as known_id};
 ghost use Rattle.hg_wireproto.specs.Lookup.{begun_text as told_begun, is_left_to_ids as left_to_ids};
 ghost use Rattle.hg_wireproto.specs.Lookup.{lookup_line};
-ghost use Rattle.hg_wireproto.specs.Lookup.{lookup_text as told_lookup, named_by, one_of, tip_of as last_of};
+ghost use Rattle.hg_wireproto.specs.Lookup.{lookup_text as told_lookup, named_by, tip_of as last_of};
 ghost use Rattle.hg_wireproto.specs.Lookup.{without_line_feed};
 ghost use Rattle.hg_wireproto.specs.declared.lookup.Resolved.TheVariants.{Id, Unknown};
 
-use crate::begun::{begins_digits, is_beginning};
+use crate::begun::is_beginning;
 use crate::text::{node_in_hex, push_id};
 use hg_keys::Bookmarks;
 use hg_log::Changelog;
@@ -33,23 +33,31 @@ pub enum Resolved {
 /// - a beginning of the lower-case digits of exactly one changeset. Of several it is
 ///   `ambiguous identifier`.
 ///
-/// Any other key, the empty one too, is reported as `unknown revision 'KEY'`, its line feeds as spaces. Only what
-/// [`is_left_to_ids`] costs a pass over the changesets; `begun_text` says the same of a view, by two look-ups.
+/// Any other key, the empty one too, is reported as `unknown revision 'KEY'`, its line feeds as spaces.
+///
+/// There is no line where only the ids say what a key names: it is a beginning, and no bookmark. Then
+/// [`begun_text`](crate::begun_text) of a view is what `lookup` has to answer.
 #[tactic(auto, unfolding(crate::specs::Lookup::lookup_text))]
 pub fn lookup_text<A: Allocator + Copy>(
     alloc: A,
     log: &Changelog<A>,
     bookmarks: &Bookmarks<A>,
     key: &[u8],
-) -> Result<Seq<u8, A>, NoMemory>
-    ensures { IfOk result (λ text. text ≡ told_lookup log.now.rows bookmarks.now.current key.now) }
+) -> Result<Option<Seq<u8, A>>, NoMemory>
+    ensures told { IfOk result (λ line. IfSome line (λ text.
+        text ≡ told_lookup log.now.rows bookmarks.now.current key.now)) }
+    ensures left { IfOk result (λ line. line ≡ None → (rows : List Changeset)
+        → told_lookup rows bookmarks.now.current key.now ≡ told_begun rows key.now) }
 {
-    line_of(alloc, key, named_of(log, bookmarks, key))
+    if is_left_to_ids(bookmarks, key) {
+        return Ok(None);
+    }
+    let line = line_of(alloc, key, named_of(log, bookmarks, key))?;
+    Ok(Some(line))
 }
 
-/// Whether only the ids say what a key names: it is a beginning, and no bookmark. Then `begun_text` is what `lookup` has
-/// to answer.
-pub fn is_left_to_ids<A: Allocator>(bookmarks: &Bookmarks<A>, key: &[u8]) -> bool
+/// Whether only the ids say what a key names: it is a beginning, and no bookmark.
+fn is_left_to_ids<A: Allocator>(bookmarks: &Bookmarks<A>, key: &[u8]) -> bool
     ensures left { result ≡ left_to_ids bookmarks.now.current key.now }
     ensures told { IsTrue result → (rows : List Changeset)
         → told_lookup rows bookmarks.now.current key.now ≡ told_begun rows key.now }
@@ -103,8 +111,10 @@ fn without_line_feeds<A: Allocator>(alloc: A, key: &[u8]) -> Result<Vec<u8, A>, 
     Ok(shown)
 }
 
+/// What a key names that is not left to the ids.
 #[tactic(auto, unfolding(crate::specs::Lookup::named_by))]
 fn named_of<A: Allocator>(log: &Changelog<A>, bookmarks: &Bookmarks<A>, key: &[u8]) -> Resolved
+    requires { left_to_ids bookmarks.now.current key.now ≡ false }
     ensures { result ≡ named_by log.now.rows bookmarks.now.current key.now }
 {
     if key == b"tip".as_slice() || key == b".".as_slice() {
@@ -118,7 +128,7 @@ fn named_of<A: Allocator>(log: &Changelog<A>, bookmarks: &Bookmarks<A>, key: &[u
     }
     match bookmarks.get(key) {
         Some(node) => Resolved::Id(node),
-        None => begun_by(log, key),
+        None => Resolved::Unknown,
     }
 }
 
@@ -141,39 +151,4 @@ fn tip_of<A: Allocator>(log: &Changelog<A>) -> Node
         return Node::NULL;
     }
     log.node((len - 1) as u32)
-}
-
-/// The one changeset whose digits a key begins.
-fn begun_by<A: Allocator>(log: &Changelog<A>, key: &[u8]) -> Resolved
-    ensures { result ≡ begins log.now.rows key.now }
-{
-    if is_beginning(key) {
-        return one_begun(log, key);
-    }
-    Resolved::Unknown
-}
-
-fn one_begun<A: Allocator>(log: &Changelog<A>, key: &[u8]) -> Resolved
-    ensures { result ≡ one_of (filter (is_begun key.now) log.now.rows) }
-{
-    let mut found = None;
-    for rev in 0..log.len() {
-        let node = log.node(rev as u32);
-        if begins_digits(key, &node) {
-            if found.is_some() {
-                return Resolved::Ambiguous;
-            }
-            found = Some(node);
-        }
-    }
-    named_as(found)
-}
-
-fn named_as(found: Option<Node>) -> Resolved
-    ensures { result ≡ id_or found Unknown }
-{
-    match found {
-        Some(node) => Resolved::Id(node),
-        None => Resolved::Unknown,
-    }
 }

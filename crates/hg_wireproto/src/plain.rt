@@ -108,7 +108,7 @@ fn is_one(rev: u32, parent: Option<u32>) -> bool
 }
 
 /// Says of the parents of a changeset that are of its branch that they are no heads.
-fn cover_parents<A: Allocator>(covered: &mut Vec<bool, A>, copied: &Copied<A>, rev: u32)
+pub fn cover_parents<A: Allocator>(covered: &mut Vec<bool, A>, copied: &Copied<A>, rev: u32)
     requires within { rev < length copied.now.rows }
     requires long { length covered.old.items ≡ rev }
     ensures as_long { length covered.new.items ≡ length covered.old.items }

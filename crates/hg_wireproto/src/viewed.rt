@@ -99,8 +99,8 @@ impl<A: Allocator> BranchView<A> {
     /// that was obsolete became public, and each that came is plain: neither it nor a parent of it is obsolete, and
     /// its parents are of its branch. A changeset with a parent of another branch is plain too, where all heads of
     /// its own branch are parents of it; to see that is a pass over the changesets, which is made for eight of those
-    /// that came at most. Where one is not plain, the heads of all branches are found anew, once: it is one pass over
-    /// the changesets for each 64 branches, beside five.
+    /// that came at most. Where one is not plain, the heads of all branches are found anew, once: it is five passes over
+    /// the changesets, and one for each 64 branches that are in doubt.
     pub fn with(self, came: Since<A>) -> Result<BranchView<A>, NoMemory>
     where
         A: Copy,

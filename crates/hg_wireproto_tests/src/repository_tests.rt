@@ -377,15 +377,27 @@ fn each_growth_of_a_text_refused(rt: HostRuntime) -> Result<(), Fail> {
     Ok(())
 }
 
-/// Whether a key is answered with that line.
-fn is_answered(
-    alloc: Global,
-    log: &Changelog,
-    bookmarks: &Bookmarks,
-    key: &[u8],
-    line: &[u8],
-) -> bool {
-    is_text(lookup_text(alloc, log, bookmarks, key), line)
+/// Changesets, and a view of them.
+#[derive(Drop)]
+struct Here {
+    log: Changelog,
+    view: BranchView,
+}
+
+/// These changesets, with a view of them.
+fn here(alloc: Global, log: Changelog, state: RandomState) -> Result<Here, Fail> {
+    let markers = Markers::new(alloc, state);
+    let view = BranchView::of(alloc, &log, &markers, &drafts(alloc, &log)?)?;
+    Ok(Here { log, view })
+}
+
+/// Whether a key is answered with that line: by the changesets, or by the view where only the ids name it.
+fn is_answered(alloc: Global, here: &Here, bookmarks: &Bookmarks, key: &[u8], line: &[u8]) -> bool {
+    match lookup_text(alloc, &here.log, bookmarks, key) {
+        Ok(Some(text)) => text.as_slice() == line,
+        Ok(None) => is_text(begun_text(alloc, &here.view, key), line),
+        Err(_) => false,
+    }
 }
 
 /// The line of the null id.
@@ -408,14 +420,14 @@ fn put_forty(alloc: Global, log: &mut Changelog) -> Result<Node, Fail> {
 /// Whether all of these keys are answered with that line.
 fn are_answered(
     alloc: Global,
-    log: &Changelog,
+    here: &Here,
     bookmarks: &Bookmarks,
     keys: &[&[u8]],
     line: &[u8],
 ) -> bool {
     let mut all = true;
     for key in keys {
-        all = all && is_answered(alloc, log, bookmarks, key, line);
+        all = all && is_answered(alloc, here, bookmarks, key, line);
     }
     all
 }
@@ -423,7 +435,7 @@ fn are_answered(
 /// Whether the last changeset is named by its words, its digits in either case, and two beginnings of these.
 fn is_tip_named(
     alloc: Global,
-    log: &Changelog,
+    here: &Here,
     bookmarks: &Bookmarks,
     tip: Node,
 ) -> Result<bool, Fail> {
@@ -441,17 +453,17 @@ fn is_tip_named(
         most,
         few,
     ];
-    Ok(are_answered(alloc, log, bookmarks, keys.as_slice(), line.as_slice()))
+    Ok(are_answered(alloc, here, bookmarks, keys.as_slice(), line.as_slice()))
 }
 
 /// Whether a digit begins the ids of several changesets. Of 40 ids two begin with one digit.
-fn has_ambiguous(alloc: Global, log: &Changelog, bookmarks: &Bookmarks) -> bool {
+fn has_ambiguous(alloc: Global, here: &Here, bookmarks: &Bookmarks) -> bool {
     let mut ambiguous = false;
     for digit in b"0123456789abcdef" {
         ambiguous = ambiguous
             || is_answered(
                 alloc,
-                log,
+                here,
                 bookmarks,
                 &[*digit],
                 b"0 ambiguous identifier\n",
@@ -463,37 +475,37 @@ fn has_ambiguous(alloc: Global, log: &Changelog, bookmarks: &Bookmarks) -> bool 
 /// Whether a bookmark comes before a beginning, and an id before a bookmark.
 fn is_in_turn(
     alloc: Global,
-    log: &Changelog,
+    here: &Here,
     bookmarks: &mut Bookmarks,
     digits: &[u8],
     line: &[u8],
 ) -> Result<bool, Fail> {
     let few = digits.get(..12).ok_or("too few digits")?;
     bookmarks.set(alloc, few, Some(NULL))?;
-    let is_before = is_answered(alloc, log, bookmarks, few, NULL_LINE);
+    let is_before = is_answered(alloc, here, bookmarks, few, NULL_LINE);
     bookmarks.set(alloc, digits, Some(NULL))?;
-    Ok(is_before && is_answered(alloc, log, bookmarks, digits, line))
+    Ok(is_before && is_answered(alloc, here, bookmarks, digits, line))
 }
 
 /// Whether the keys are answered that need no bookmark.
 fn words_are_named(
     alloc: Global,
-    log: &Changelog,
+    here: &Here,
     bookmarks: &Bookmarks,
     tip: Node,
 ) -> Result<bool, Fail> {
-    let tips = is_tip_named(alloc, log, bookmarks, tip)?;
-    let nulls = is_answered(alloc, log, bookmarks, b"null", NULL_LINE)
-        && is_answered(alloc, log, bookmarks, NULL_DIGITS, NULL_LINE);
+    let tips = is_tip_named(alloc, here, bookmarks, tip)?;
+    let nulls = is_answered(alloc, here, bookmarks, b"null", NULL_LINE)
+        && is_answered(alloc, here, bookmarks, NULL_DIGITS, NULL_LINE);
     let line = b"0 unknown revision 'no such'\n".as_slice();
-    let unknown = is_answered(alloc, log, bookmarks, b"no\nsuch", line);
-    Ok(tips && nulls && unknown && has_ambiguous(alloc, log, bookmarks))
+    let unknown = is_answered(alloc, here, bookmarks, b"no\nsuch", line);
+    Ok(tips && nulls && unknown && has_ambiguous(alloc, here, bookmarks))
 }
 
 /// Whether a bookmark is answered, and comes in its turn.
 fn marks_are_named(
     alloc: Global,
-    log: &Changelog,
+    here: &Here,
     bookmarks: &mut Bookmarks,
     tip: Node,
 ) -> Result<bool, Fail> {
@@ -501,19 +513,25 @@ fn marks_are_named(
     let digits = hex::encode(alloc, tip.0.as_slice())?;
     let digits = digits.as_str().as_bytes();
     let line = line_of(alloc, digits)?;
-    let named = is_answered(alloc, log, bookmarks, b"no\nsuch", line.as_slice());
-    Ok(named && is_in_turn(alloc, log, bookmarks, digits, line.as_slice())?)
+    let named = is_answered(alloc, here, bookmarks, b"no\nsuch", line.as_slice());
+    Ok(named && is_in_turn(alloc, here, bookmarks, digits, line.as_slice())?)
 }
 
 /// Whether keys are answered of no changesets, and then of forty.
 fn keys_are_named(alloc: Global, state: RandomState) -> Result<bool, Fail> {
-    let mut log = Changelog::new(alloc, state, Limits::standard());
     let mut bookmarks = Bookmarks::new(alloc);
-    let none = is_answered(alloc, &log, &bookmarks, b"tip", NULL_LINE)
-        && is_answered(alloc, &log, &bookmarks, b"", b"0 unknown revision ''\n");
+    let empty = here(
+        alloc,
+        Changelog::new(alloc, state, Limits::standard()),
+        state,
+    )?;
+    let none = is_answered(alloc, &empty, &bookmarks, b"tip", NULL_LINE)
+        && is_answered(alloc, &empty, &bookmarks, b"", b"0 unknown revision ''\n");
+    let mut log = Changelog::new(alloc, state, Limits::standard());
     let tip = put_forty(alloc, &mut log)?;
-    let words = words_are_named(alloc, &log, &bookmarks, tip)?;
-    let marks = marks_are_named(alloc, &log, &mut bookmarks, tip)?;
+    let forty = here(alloc, log, state)?;
+    let words = words_are_named(alloc, &forty, &bookmarks, tip)?;
+    let marks = marks_are_named(alloc, &forty, &mut bookmarks, tip)?;
     Ok(none && words && marks)
 }
 

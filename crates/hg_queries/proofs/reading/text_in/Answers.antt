@@ -14,9 +14,9 @@ returns-in-ListKeys g c =
 
 pub returns-in-Lookup : goal.returns-in-Lookup
 returns-in-Lookup g c =
-    subst (λ read. IfOk c.lookup_text.result (λ text.
+    subst (λ read. IfOk c.lookup_in.result (λ text.
     IsTextOf (repository_of c.args.settings.now c.args.store.now) read c.args.about.now text))
-    (sym c.in-Lookup.is) c.lookup_text.ensures
+    (sym c.in-Lookup.is) c.lookup_in.ensures
 
 pub returns-in_ok-view_of-in-Heads : goal.returns-in_ok-view_of-in-Heads
 returns-in_ok-view_of-in-Heads g c =

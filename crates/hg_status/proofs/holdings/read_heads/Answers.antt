@@ -1,5 +1,5 @@
 use Rattle.std.proofs.Common.{◌≡◌, ◌≤◌, ◌<◌, ◌-◌, ℕ, suc, arith, length, min, subst, sym}
-use Rattle.hg_log.specs.HeadCount.{head_revs}
+use Rattle.hg_status.specs.Heads.{first_of, near_heads}
 use Rattle.hg_status.proofs.HeadsShown.{AreRead, all_read, count_enough, none_left, none_read, one_read}
 use Rattle.hg_status.proofs.holdings.read_heads.Goals as goal
 
@@ -17,15 +17,16 @@ loop-rev-preserved g c =
     let rev = c.loop-rev.rev - 1 in
     let heads = c.loop-rev.heads.items in
     let next : c.loop-rev.rev ≡ suc rev = omega (arith, c.loop-rev-test.true) in
+    let past : first_of rows ≤ rev = omega (arith, c.loop-rev-test.true, c.saturating_sub-first.ensures, c.len.ensures.len) in
     let room : length heads < 100 = omega (arith, c.if-len-wanted.false, c.min-wanted.ensures) in
-    one_read rows phases rev heads c.add_head.new.heads.items
+    one_read rows phases rev heads c.add_head.new.heads.items past
     (subst (λ (n : ℕ). AreRead rows phases n heads) next c.loop-rev.invariant) room c.in_ok-add_head.ensures
 
 pub returns-then-len-wanted : goal.returns-then-len-wanted
 returns-then-len-wanted g c =
     let rows = c.args.log.now.rows in
     let heads = c.loop-rev.heads.items in
-    let enough : min (length (head_revs rows)) 100 ≤ length heads =
+    let enough : min (length (near_heads rows)) 100 ≤ length heads =
     omega (arith, c.if-len-wanted.true, c.min-wanted.ensures, c.head_count.ensures.count, count_enough rows) in
     all_read rows c.args.phases.now.current.phases c.loop-rev.rev heads c.loop-rev.invariant enough
 
@@ -34,7 +35,8 @@ returns g c =
     let rows = c.args.log.now.rows in
     let phases = c.args.phases.now.current.phases in
     let heads = c.loop-rev.heads.items in
-    let none : c.loop-rev.rev ≡ 0 = omega (arith, c.loop-rev-test.false) in
-    let read = subst (λ (n : ℕ). AreRead rows phases n heads) none c.loop-rev.invariant in
-    let enough : min (length (head_revs rows)) 100 ≤ length heads = omega (arith, none_left rows phases heads read) in
-    all_read rows phases 0 heads read enough
+    let past : c.loop-rev.rev ≤ first_of rows =
+    omega (arith, c.loop-rev-test.false, c.saturating_sub-first.ensures, c.len.ensures.len) in
+    let enough : min (length (near_heads rows)) 100 ≤ length heads =
+    omega (arith, none_left rows phases c.loop-rev.rev heads past c.loop-rev.invariant) in
+    all_read rows phases c.loop-rev.rev heads c.loop-rev.invariant enough

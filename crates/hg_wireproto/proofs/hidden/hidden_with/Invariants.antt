@@ -1,6 +1,6 @@
 use Rattle.std.proofs.Common.{◌≡◌, ◌↔◌, ◌<◌, ◌≤◌, ℕ, get_or, length, true, false}
 use Rattle.hg_wireproto.specs.Hidden.{IsHidden}
-use Rattle.hg_wireproto.proofs.hidden.hidden_in.Given as goal
+use Rattle.hg_wireproto.proofs.hidden.hidden_with.Given as goal
 
 -- those so far
 abbrev pub invariant-loop-rev : goal.invariant-loop-rev
