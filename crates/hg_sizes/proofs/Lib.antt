@@ -1,0 +1,6 @@
+mod Measuring
+mod Measured
+mod Weighed
+mod Reading
+mod Noting
+mod Bundles

@@ -1,0 +1,4 @@
+pub mod Measures
+pub mod Weights
+pub mod Changesets
+pub mod code

@@ -1,0 +1,2 @@
+mod Here
+mod Weighings
