@@ -26,6 +26,7 @@ use Rattle.hg_http.specs.Addresses.{fault_of}
 use Rattle.hg_http.specs.Commands.{command_of}
 use Rattle.hg_http.specs.Requests.{arguments_of, is_from_client, name_of}
 use Rattle.hg_http.specs.declared.hook.policy.Verdict.{Verdict}
+use Rattle.hg_web.specs.code.Budgets.{IsHeld}
 use Rattle.hg_web.specs.Letting.{denial_of, IfLet}
 use Rattle.hg_web.specs.Answering.{AnswersAddressed, AnswersAsked, AnswersBatch, AnswersCommand, AnswersForced, AnswersKey}
 use Rattle.hg_web.specs.Answering.{AnswersPush, AnswersRequest}
@@ -107,6 +108,16 @@ text_or_lacks first kept before answer after Finds (Ok t) look is =
     inl (record { text = t; looks = look; answer_is = is })
 text_or_lacks first kept before answer after Finds (Err e) look is =
     inr (looked_in_vain first kept before answer after _ look is)
+
+-- the same of an answer for which there may be no room
+pub held_or_lacks : {A : Type 0} (first : RepositoryOf A) (kept : ReceiptView → KeptSeen A → ℕ → Type 0)
+    (Says : KeptSeen A → HttpAnswer A → KeptSeen A → Type 0) (before : KeptSeen A) (answer held : HttpAnswer A)
+    (after : KeptSeen A) (Finds : Repository A → Type 0) (was now : ℕ) → LooksKept first kept before after Finds
+    → OrLacks true Says before answer after → IsHeld answer was held now → OrLacks true Says before held after
+held_or_lacks first kept Says before answer held after Finds was now look is (inl room) =
+    subst (λ a. OrLacks true Says before a after) (sym room.0) is
+held_or_lacks first kept Says before answer held after Finds was now look is (inr none) =
+    inr (looked_in_vain first kept before held after Finds look none.0)
 
 module _ {A E : Type 0} (first : RepositoryOf A) (kept : ReceiptView → KeptSeen A → ℕ → Type 0) (before : KeptSeen A)
     (answer : HttpAnswer A) (after : KeptSeen A) (IsText : Repository A → List ℕ → Type 0)

@@ -16,8 +16,8 @@ use Rattle.http_server.specs.Exchange.{Chain}
 use Rattle.http_server.specs.History.{History, IsServed, new_history}
 use Rattle.http_server.proofs.KnownLemmas.{Appends-then, Consumes-then}
 use Rattle.http_server.proofs.StreamLemmas.{Chain-append}
-use Rattle.hg_web.specs.Serving.{calls_of, Converses, EndsConnection, EndsPlainly, IsNoRoomAnswer, IsRefused}
-use Rattle.hg_web.specs.Serving.{lost_text, no_room_text, read_of, Refused, sent_of}
+use Rattle.hg_web.specs.Serving.{calls_of, Converses, EndsConnection, EndsPlainly, IsAnswered, IsNoRoomAnswer, IsPast, IsRefused}
+use Rattle.hg_web.specs.Serving.{lost_text, no_room_text, Past, read_of, sent_of}
 use Rattle.hg_http.specs.declared.follow.Follower.{Follower}
 use Rattle.hg_http.specs.Following.{limits_of}
 use Rattle.hg_web.specs.code.Following.{Passes, Waits, Went}
@@ -48,16 +48,16 @@ new_served config = record {
 -- the stretches of a connection up to a place between two of them
 pub record SoFar {V : Type 0} (config : Config) (answers : V → Asked (List ℕ) → Response → V → Type 0) (old now : V)
     (input left out sent : Option (List ℕ)) : Type 0 where
-  pub refused : List Refused
-  pub each : AllByRecursion (IsRefused config) refused
-  pub calls : Chain answers old (flat_map calls_of refused) now
-  pub read : Consumes input left (flat_map read_of refused)
-  pub written : Appends out sent (flat_map sent_of refused)
+  pub past : List Past
+  pub each : AllByRecursion (IsPast config) past
+  pub calls : Chain answers old (flat_map calls_of past) now
+  pub read : Consumes input left (flat_map read_of past)
+  pub written : Appends out sent (flat_map sent_of past)
 
 module _ {V : Type 0} (config : Config) (answers : V → Asked (List ℕ) → Response → V → Type 0) where
   pub begins : (old : V) (input out : Option (List ℕ)) → SoFar config answers old old input input out out
   begins old input out = record {
-    refused = [];
+    past = [];
     each = tt;
     calls = refl;
     read = Consumes-nil input;
@@ -74,22 +74,40 @@ module _ {V : Type 0} (config : Config) (answers : V → Asked (List ℕ) → Re
 
   pub one_refused : (old now new : V) (input left middle rest out sent between wrote : Option (List ℕ))
       (h : History) (dropped more : List ℕ) → SoFar config answers old now input left out sent →
-      IsRefused config (record { history = h; dropped = dropped ++ more }) →
+      IsRefused config h (dropped ++ more) →
       Went answers now new left middle sent between h dropped → Consumes middle rest more →
       Appends between wrote (no_room_text false) → SoFar config answers old new input rest out wrote
   one_refused old now new input left middle rest out sent between wrote h dropped more x is went passed answer =
-      let last : Refused = record { history = h; dropped = dropped ++ more } in
+      let last : Past = record { history = h; dropped = dropped ++ more; has_refused = true } in
       record {
-        refused = x.refused ++ last ∷ [];
-        each = each_more (IsRefused config) x.refused last x.each is;
-        calls = subst (λ cs. Chain answers old cs new) (sym (one_more calls_of x.refused last))
-            (Chain-append answers (flat_map calls_of x.refused) h.calls old now new x.calls went.calls);
-        read = subst (λ bytes. Consumes input rest bytes) (sym (one_more read_of x.refused last))
-            (Consumes-then input left rest (flat_map read_of x.refused) (read_of last) x.read
+        past = x.past ++ last ∷ [];
+        each = each_more (IsPast config) x.past last x.each is;
+        calls = subst (λ cs. Chain answers old cs new) (sym (one_more calls_of x.past last))
+            (Chain-append answers (flat_map calls_of x.past) h.calls old now new x.calls went.calls);
+        read = subst (λ bytes. Consumes input rest bytes) (sym (one_more read_of x.past last))
+            (Consumes-then input left rest (flat_map read_of x.past) (read_of last) x.read
             (read_all now new left middle rest sent between h dropped more went passed));
-        written = subst (λ bytes. Appends out wrote bytes) (sym (one_more sent_of x.refused last))
-            (Appends-then out sent wrote (flat_map sent_of x.refused) (sent_of last) x.written
+        written = subst (λ bytes. Appends out wrote bytes) (sym (one_more sent_of x.past last))
+            (Appends-then out sent wrote (flat_map sent_of x.past) (sent_of last) x.written
             (Appends-then sent between wrote h.sent (no_room_text false) went.written answer));
+      }
+
+  -- a stretch of which each request was answered
+  pub one_answered : (old now new : V) (input left rest out sent wrote : Option (List ℕ)) (h : History) →
+      SoFar config answers old now input left out sent → IsAnswered config h →
+      Went answers now new left rest sent wrote h [] → SoFar config answers old new input rest out wrote
+  one_answered old now new input left rest out sent wrote h x is went =
+      let last : Past = record { history = h; dropped = []; has_refused = false } in
+      record {
+        past = x.past ++ last ∷ [];
+        each = each_more (IsPast config) x.past last x.each is;
+        calls = subst (λ cs. Chain answers old cs new) (sym (one_more calls_of x.past last))
+            (Chain-append answers (flat_map calls_of x.past) h.calls old now new x.calls went.calls);
+        read = subst (λ bytes. Consumes input rest bytes) (sym (one_more read_of x.past last))
+            (Consumes-then input left rest (flat_map read_of x.past) (read_of last) x.read went.read);
+        written = subst (λ bytes. Appends out wrote bytes) (sym (one_more sent_of x.past last))
+            (Appends-then out sent wrote (flat_map sent_of x.past) (sent_of last) x.written
+            (subst (λ bytes. Appends sent wrote bytes) (sym (append-nil h.sent)) went.written));
       }
 
   pub ends_with : (breaks : Type 0) (old now new : V)
@@ -101,17 +119,17 @@ module _ {V : Type 0} (config : Config) (answers : V → Asked (List ℕ) → Re
   ends_with breaks old now new input left middle rest out sent between wrote h dropped more answer x served went
       passed last ends =
       record {
-        refused = x.refused;
+        past = x.past;
         each = x.each;
         history = h;
         served = served;
-        calls = Chain-append answers (flat_map calls_of x.refused) h.calls old now new x.calls went.calls;
+        calls = Chain-append answers (flat_map calls_of x.past) h.calls old now new x.calls went.calls;
         passed = dropped ++ more;
         answer = answer;
         ends = ends;
-        read = Consumes-then input left rest (flat_map read_of x.refused) (h.received ++ (dropped ++ more)) x.read
+        read = Consumes-then input left rest (flat_map read_of x.past) (h.received ++ (dropped ++ more)) x.read
             (read_all now new left middle rest sent between h dropped more went passed);
-        written = Appends-then out sent wrote (flat_map sent_of x.refused) (h.sent ++ answer) x.written
+        written = Appends-then out sent wrote (flat_map sent_of x.past) (h.sent ++ answer) x.written
             (Appends-then sent between wrote h.sent answer went.written last);
       }
 
@@ -127,7 +145,7 @@ module _ {V : Type 0} (config : Config) (answers : V → Asked (List ℕ) → Re
 -- the request that a stretch came to, and the rest of it
 pub is_refused : (config : Config) (h : History) (dropped more : List ℕ) (is_whole : Bool) (f : Follower) →
     ∥ IsServed config h ∥₁ → Waits config h dropped is_whole f → Passes is_whole f more →
-    IsRefused config (record { history = h; dropped = dropped ++ more })
+    IsRefused config h (dropped ++ more)
 is_refused config h dropped more true f served waits none =
     let at = waits.within in
     let all : h.received ++ dropped ≡ h.received ++ (dropped ++ more) =
@@ -139,6 +157,7 @@ is_refused config h dropped more true f served waits none =
       requests = at.1.0;
       whole = subst (λ s. ReadsRequests config.limits s at.1.0 []) all at.1.1;
       one = omega (arith, at.1.2, at.3);
+      none_dropped = λ (wrong : true ≡ false). absurd (let e : true ≡ false = wrong in cc);
     }
 is_refused config h dropped more false f served waits passes =
     let at = waits.within passes.0 in
@@ -151,6 +170,7 @@ is_refused config h dropped more false f served waits passes =
       whole = subst (λ l. ReadsRequests l (h.received ++ (dropped ++ more)) whole.0 []) waits.limits
           (subst (λ s. ReadsRequests (limits_of f) s whole.0 []) (append_assoc h.received dropped more) whole.1);
       one = omega (arith, whole.2, at.2);
+      none_dropped = λ (wrong : true ≡ false). absurd (let e : true ≡ false = wrong in cc);
     }
 
 -- how a refused request ends a connection
@@ -193,7 +213,7 @@ pub converses_as : {V : Type 0} (A B : Type 0) (config : Config)
     (A → B) → Converses A config answers old new input left out sent →
     Converses B config answers old new input left out sent
 converses_as A B config answers old new input left out sent f x = record {
-  refused = x.refused;
+  past = x.past;
   each = x.each;
   history = x.history;
   served = x.served;

@@ -21,6 +21,7 @@ use Rattle.hg_commit.specs.Orders.{ReceiptView}
 use Rattle.hg_parts.specs.Repository.{Repository}
 use Rattle.hg_push.specs.Run.{RepositoryOf}
 use Rattle.hg_web.specs.Answering.{Responds, WireView}
+use Rattle.hg_web.specs.Serving.{IsAnswered}
 use Rattle.hg_web.specs.code.Following.{Brings, EndsStretch, GoesOn, HasSent, IsWithin, Waits, Went}
 use Rattle.hg_web.specs.declared.serve.Stretch.{Stretch}
 
@@ -207,6 +208,26 @@ waits_read config h rested next is_whole now_whole is_held from to left rest wai
           (subst (λ n. IsWithin config now_whole (stream ++ (b.given ++ b.dropped)) n to)
           (ap length (sym b.has_read.calls))
           (goes_within config now_whole from to stream (b.given ++ b.dropped) (length h.calls) limits within b.follows));
+    }
+
+-- where it rests at the end of a request, all were answered
+pub all_answered : (config : Config) (h rested : History) (is_whole : Bool) (f : Follower) → is_whole ≡ true →
+    ∥ IsServed config h ∥₁ → Waits config h [] is_whole f → Rests config rested → rested.state ≡ Open →
+    rested.pending ≡ [] → h.received ≡ rested.received → h.calls ≡ rested.calls → IsAnswered config h
+all_answered config h rested is_whole f whole served waits rests still none same called =
+    let there : IsWithin config true (h.received ++ []) (length h.calls) f =
+    subst (λ b. IsWithin config b (h.received ++ []) (length h.calls) f) whole waits.within in
+    let all = (rests still (omega (arith, ap length none))).1 in
+    let few = all there.1.0 [] (subst (λ s. ReadsRequests config.limits s there.1.0 []) (append-nil h.received ∙ same)
+    there.1.1) in
+    record {
+      served = served;
+      open_still = waits.open_still;
+      all_sent = waits.all_sent;
+      requests = there.1.0;
+      whole = there.1.1;
+      one = omega (arith, few, ap length called);
+      none_dropped = λ _. refl;
     }
 
 -- a stretch that begins waits

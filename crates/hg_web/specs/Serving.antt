@@ -44,32 +44,53 @@ abbrev pub lost_text : List ℕ
 lost_text = line (codes "HTTP/1.1 200 OK") ++ line (codes "content-type: application/mercurial-0.1")
     ++ closing true ++ line (codes "content-length: 62") ++ line [] ++ reply_of {A = ⊤} (IsAborted (Cut ReadFailed))
 
--- A stretch of a connection: requests that were answered, and one that found no room. It has the bytes of that request
--- that were read and dropped.
-pub record Refused : Type 0 where
+-- A stretch of a connection that is over: requests that were answered, and maybe one that found no room. It has the
+-- bytes of that request that were read and dropped.
+pub record Past : Type 0 where
   pub history : History
   pub dropped : List ℕ
+  pub has_refused : Bool
 
-abbrev pub read_of : Refused → List ℕ
+abbrev pub read_of : Past → List ℕ
 read_of r = r.history.received ++ r.dropped
 
-abbrev pub calls_of : Refused → List Call
+abbrev pub calls_of : Past → List Call
 calls_of r = r.history.calls
 
--- what was sent for it: the answers, and the one that says that a request found no room
-abbrev pub sent_of : Refused → List ℕ
-sent_of r = r.history.sent ++ no_room_text false
+-- the answer that says that a request found no room, if one did
+abbrev pub refusal_if : Bool → List ℕ
+refusal_if true = no_room_text false
+refusal_if false = []
 
--- The requests of a stretch were served as HTTP has it, and what was sent answers those before the refused one.
--- All bytes of the stretch are whole requests of HTTP's grammar: those that were answered, and the refused one, which
--- no call was made for.
-pub record IsRefused (config : Config) (r : Refused) : Type 0 where
+-- what was sent for it: the answers, and the one that says that a request found no room
+abbrev pub sent_of : Past → List ℕ
+sent_of r = r.history.sent ++ refusal_if r.has_refused
+
+-- how many requests were not answered by a call
+abbrev pub refused_if : Bool → ℕ
+refused_if true = 1
+refused_if false = 0
+
+-- The requests of a stretch were served as HTTP has it, and what was sent answers those before the refused one, if there
+-- is one. All bytes of the stretch are whole requests of HTTP's grammar: those that were answered, and the refused one,
+-- which no call was made for. Nothing is dropped of another.
+pub record IsPast (config : Config) (r : Past) : Type 0 where
   pub served : ∥ IsServed config r.history ∥₁
   pub open_still : r.history.state ≡ Open
   pub all_sent : r.history.pending ≡ []
   pub requests : List Request
   pub whole : ReadsRequests config.limits (read_of r) requests []
-  pub one : length requests ≤ length (calls_of r) + 1
+  pub one : length requests ≤ length (calls_of r) + refused_if r.has_refused
+  pub none_dropped : r.has_refused ≡ false → r.dropped ≡ []
+
+-- a stretch whose last request found no room
+abbrev pub IsRefused : Config → History → List ℕ → Type 0
+IsRefused config history dropped =
+    IsPast config (record { history = history; dropped = dropped; has_refused = true })
+
+-- a stretch of which each request was answered
+abbrev pub IsAnswered : Config → History → Type 0
+IsAnswered config history = IsPast config (record { history = history; dropped = []; has_refused = false })
 
 -- what was sent to the last request, where that was refused: all of the answer, or a front of it where the
 -- connection broke off
@@ -89,23 +110,23 @@ abbrev pub EndsConnection : Type 0 → Config → History → List ℕ → List 
 EndsConnection breaks config history passed answer =
     ((passed ≡ []) × (answer ≡ []) × EndsPlainly breaks history)
     ⊎ (breaks × (history.state ≡ Open) × (history.pending ≡ []) × IsPrefix answer lost_text)
-    ⊎ (IsRefused config (record { history = history; dropped = passed }) × IsNoRoomAnswer breaks answer)
+    ⊎ (IsRefused config history passed × IsNoRoomAnswer breaks answer)
 
--- A connection: stretches that end with a refused request, and a last one. What was read are the bytes of these,
+-- A connection: stretches that are over, and a last one. What was read are the bytes of these,
 -- in order, and what was written is what was sent in them, in order, and each call goes on from the one before.
 pub record Converses {V : Type 0} (breaks : Type 0) (config : Config)
     (answers : V → Asked (List ℕ) → Response → V → Type 0) (old new : V)
     (input left out sent : Option (List ℕ)) : Type 0 where
-  pub refused : List Refused
-  pub each : AllByRecursion (IsRefused config) refused
+  pub past : List Past
+  pub each : AllByRecursion (IsPast config) past
   pub history : History
   pub served : ∥ IsServed config history ∥₁
-  pub calls : Chain answers old (flat_map calls_of refused ++ history.calls) new
+  pub calls : Chain answers old (flat_map calls_of past ++ history.calls) new
   pub passed : List ℕ
   pub answer : List ℕ
   pub ends : EndsConnection breaks config history passed answer
-  pub read : Consumes input left (flat_map read_of refused ++ (history.received ++ passed))
-  pub written : Appends out sent (flat_map sent_of refused ++ (history.sent ++ answer))
+  pub read : Consumes input left (flat_map read_of past ++ (history.received ++ passed))
+  pub written : Appends out sent (flat_map sent_of past ++ (history.sent ++ answer))
 
 -- What was received begins with requests of HTTP's grammar, and what was sent, or waits, is in order the
 -- responses to them: each reports the answer to its request, and each goes on from what the client had seen

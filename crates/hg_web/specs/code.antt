@@ -3,3 +3,4 @@ pub mod Rounds
 pub mod Following
 pub mod Bodies
 pub mod Telling
+pub mod Budgets

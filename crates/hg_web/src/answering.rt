@@ -16,6 +16,7 @@ ghost use Rattle.hg_web.specs.Answering.{around_of, capabilities_with, is_look, 
 ghost use Rattle.hg_http.specs.Policies.{AsksOnce, HasAsked};
 ghost use Rattle.hg_web.specs.Pushes.{Answered};
 
+use crate::budget::Room;
 use crate::dismissal::tell_answer;
 use crate::key::push_key;
 use crate::letting::unbundle_if_let;
@@ -54,6 +55,7 @@ pub fn answer_request<
     terms: &WebTerms<'_, S>,
     client: KeptClient<J, A>,
     request: &Request<Bytes>,
+    room: &mut Room<'_>,
     watch: &mut V,
     policy: &mut P,
 ) -> (KeptClient<J, A>, Result<HttpAnswer<A>, NotStored>)
@@ -63,7 +65,7 @@ pub fn answer_request<
         (HasAsked (P.asked policy.old) (P.asked policy.new)) request.now) client result.1 result.0 }
     ensures asks { AsksOnce (P.asked policy.old) (P.asked policy.new) }
 {
-    let (client, answer) = answer_addressed(host, terms, client, request, watch, policy);
+    let (client, answer) = answer_addressed(host, terms, client, request, room, watch, policy);
     tell_answer(watch, &answer);
     (client, answer)
 }
@@ -82,6 +84,7 @@ fn answer_addressed<
     terms: &WebTerms<'_, S>,
     client: KeptClient<J, A>,
     request: &Request<Bytes>,
+    room: &mut Room<'_>,
     watch: &mut V,
     policy: &mut P,
 ) -> (KeptClient<J, A>, Result<HttpAnswer<A>, NotStored>)
@@ -95,7 +98,9 @@ fn answer_addressed<
         Ok((_, _, Some(fault))) => (client, Ok(HttpAnswer::Misaddressed(fault))),
         Ok((command, fields, None)) => {
             let fields = fields.as_slice();
-            answer_asked(command, fields, request, host, terms, client, watch, policy)
+            answer_asked(
+                command, fields, request, host, terms, client, room, watch, policy,
+            )
         }
         Err(_) => (client, Ok(HttpAnswer::Refused(RequestRefusal::NoMemory))),
     }
@@ -135,6 +140,7 @@ fn answer_asked<
     host: &Host<'_, J, D, R, A>,
     terms: &WebTerms<'_, S>,
     client: KeptClient<J, A>,
+    room: &mut Room<'_>,
     watch: &mut V,
     policy: &mut P,
 ) -> (KeptClient<J, A>, Result<HttpAnswer<A>, NotStored>)
@@ -147,13 +153,16 @@ fn answer_asked<
 {
     match command {
         Some(command) => {
-            answer_command(command, fields, request, host, terms, client, watch, policy)
+            answer_command(
+                command, fields, request, host, terms, client, room, watch, policy,
+            )
         }
         None => answer_view(
             &host.keeping,
             terms,
             client,
             view_of(&terms.address, request),
+            room,
         ),
     }
 }
@@ -174,6 +183,7 @@ fn answer_command<
     host: &Host<'_, J, D, R, A>,
     terms: &WebTerms<'_, S>,
     client: KeptClient<J, A>,
+    room: &mut Room<'_>,
     watch: &mut V,
     policy: &mut P,
 ) -> (KeptClient<J, A>, Result<HttpAnswer<A>, NotStored>)
@@ -185,9 +195,9 @@ fn answer_command<
     ensures asks { AsksOnce (P.asked policy.old) (P.asked policy.new) }
 {
     match command {
-        Command::ReadOnly(read) => answer_read(host, client, read, fields),
+        Command::ReadOnly(read) => answer_read(host, client, read, fields, room),
         Command::Capabilities => (client, Ok(capabilities(host.keeping.alloc, terms.also))),
-        Command::Batch => answer_batch(host, client, fields),
+        Command::Batch => answer_batch(host, client, fields, room),
         Command::Unbundle if is_from_client(request) => {
             let believed = terms.user;
             answer_unbundle(
@@ -255,6 +265,7 @@ fn answer_read<J: Storing<A>, D: Device, A: Allocator + Copy, R: Wait>(
     client: KeptClient<J, A>,
     read: Read,
     fields: &[Field<A>],
+    room: &mut Room<'_>,
 ) -> (KeptClient<J, A>, Result<HttpAnswer<A>, NotStored>)
     ensures { Answered (OrLacks true (IsTextAt J.first
         (IsKept D.seen D.may_leave D.moment J.head J.stored J.first host.now.keeping.ledger.now.has_beats)
@@ -270,17 +281,18 @@ fn answer_read<J: Storing<A>, D: Device, A: Allocator + Copy, R: Wait>(
             read,
             about,
         };
-        return answer_look(&host.keeping, client, &command);
+        return answer_look(&host.keeping, client, &command, room);
     }
     let question = ReadCommand { alloc, read, about };
-    answer_look(&host.keeping, client, &Asking { question })
+    answer_look(&host.keeping, client, &Asking { question }, room)
 }
 
-/// Answers by the text that one look finds.
+/// Answers by the text that one look finds, where there is room for it.
 fn answer_look<J: Storing<A>, D: Device, A: Allocator + Copy, R: Wait, L>(
     keeping: &Keeping<'_, J, D, R, A>,
     client: KeptClient<J, A>,
     at: &L,
+    room: &mut Room<'_>,
 ) -> (KeptClient<J, A>, Result<HttpAnswer<A>, NotStored>)
 where
     L: Look<J, A, Result<Seq<u8, A>, NoMemory>>,
@@ -290,7 +302,10 @@ where
 {
     let (client, looked) = look_kept(keeping, client, at);
     match looked {
-        Ok((text, _rests)) => (client, Ok(text_answer(text))),
+        Ok((text, _rests)) => {
+            let answer = text_answer(text);
+            (client, Ok(room.hold(keeping.rt, answer)))
+        }
         Err(fault) => (client, Err(fault)),
     }
 }
@@ -323,6 +338,7 @@ fn answer_batch<J: Storing<A>, D: Device, A: Allocator + Copy, R: Wait>(
     host: &Host<'_, J, D, R, A>,
     client: KeptClient<J, A>,
     fields: &[Field<A>],
+    room: &mut Room<'_>,
 ) -> (KeptClient<J, A>, Result<HttpAnswer<A>, NotStored>)
     ensures { let commands = commands_of (argument_in fields.now (codes "cmds")) in
         Answered (OrLacks true (AnswersBatch J.first
@@ -330,7 +346,7 @@ fn answer_batch<J: Storing<A>, D: Device, A: Allocator + Copy, R: Wait>(
         commands (why_refused commands))) client result.1 result.0 }
 {
     match read_batch(host.keeping.alloc, argument(fields, b"cmds".as_slice())) {
-        Ok(commands) => answer_commands(host, client, commands.as_slice()),
+        Ok(commands) => answer_commands(host, client, commands.as_slice(), room),
         Err(_) => (client, Ok(HttpAnswer::Refused(RequestRefusal::NoMemory))),
     }
 }
@@ -340,6 +356,7 @@ fn answer_commands<J: Storing<A>, D: Device, A: Allocator + Copy, R: Wait>(
     host: &Host<'_, J, D, R, A>,
     client: KeptClient<J, A>,
     commands: &[hg_wireproto::BatchCommand<A>],
+    room: &mut Room<'_>,
 ) -> (KeptClient<J, A>, Result<HttpAnswer<A>, NotStored>)
     ensures { Answered (OrLacks true (AnswersBatch J.first
         (IsKept D.seen D.may_leave D.moment J.head J.stored J.first host.now.keeping.ledger.now.has_beats)
@@ -356,10 +373,10 @@ fn answer_commands<J: Storing<A>, D: Device, A: Allocator + Copy, R: Wait>(
             shelf: host.shelf,
             commands,
         };
-        return answer_look(&host.keeping, client, &batch);
+        return answer_look(&host.keeping, client, &batch, room);
     }
     let question = Batch { alloc, commands };
-    answer_look(&host.keeping, client, &Asking { question })
+    answer_look(&host.keeping, client, &Asking { question }, room)
 }
 
 /// Answers a push of a body, where its heads are forced.

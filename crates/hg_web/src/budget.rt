@@ -1,11 +1,17 @@
-//! How many bytes the bodies of all requests hold together.
+//! How many bytes the bodies of all requests, and the answers to them, hold together.
 
+ghost use Rattle.std.specs.Prelude.{◌≡◌, length};
+ghost use Rattle.hg_web.specs.code.Budgets.{text_in};
+
+use hg_http::{HttpAnswer, RequestRefusal};
+use std::alloc::Allocator;
 use std::sync::{Mutex, Wait};
 
-/// How many bytes of a request are free: a head has no more.
+/// How many bytes of a request are free, since a head has no more, and how many of an answer.
 const FREE: usize = 16_384;
 
-/// How many bytes the bodies of all requests may hold together. It is shared by all connections of a server.
+/// How many bytes the bodies of all requests, and the answers to them, may hold together. All connections of a server
+/// share it.
 #[derive(Drop)]
 pub struct Budget {
     left: Mutex<usize>,
@@ -37,7 +43,8 @@ impl Budget {
     }
 }
 
-/// What one connection holds of it: as many bytes as its longest body had, and a head is free.
+/// What the bodies of one connection hold of it: as many bytes as the longest one had whose block there still is. A head
+/// is free.
 #[derive(Drop)]
 pub(crate) struct Share<'a> {
     budget: &'a Budget,
@@ -52,7 +59,7 @@ pub(crate) struct Share<'a> {
 }
 
 impl<'a> Share<'a> {
-    ghost use Rattle.std.specs.Prelude.{◌≡◌, nat_lt};
+    ghost use Rattle.std.specs.Prelude.{◌≡◌, ◌<◌, ◌↔◌, IsTrue, nat_lt};
 
     /// Nothing yet.
     pub(crate) fn new(budget: &'a Budget) -> Share<'a> {
@@ -100,19 +107,116 @@ impl<'a> Share<'a> {
         self.came > 0
     }
 
-    /// Forgets what came, since it was answered. What was taken stays taken: the connection keeps the block of its
-    /// longest body, and what comes next lies in that block.
-    pub(crate) fn forget(&mut self) {
+    /// Forgets what came, since it was answered. What was taken stays taken as long as there is the block of that body.
+    pub(crate) fn forget(&mut self)
+        ensures came { self.new.came ≡ 0 }
+        ensures taken { self.new.taken ≡ self.old.taken }
+    {
         self.came = 0;
         self.is_over = false;
     }
 
-    /// Gives all back: the connection is gone, and its block with it.
-    pub(crate) fn clear<R: Wait>(&mut self, rt: &R) {
+    /// Whether the block of a body that was answered is kept for nothing.
+    pub(crate) fn is_idle(&self) -> bool
+        ensures { IsTrue result ↔ ((self.now.came ≡ 0) × (0 < self.now.taken)) }
+    {
+        self.came == 0 && self.taken > 0
+    }
+
+    /// Gives all back: the block is gone.
+    pub(crate) fn clear<R: Wait>(&mut self, rt: &R)
+        ensures came { self.new.came ≡ 0 }
+        ensures taken { self.new.taken ≡ 0 }
+    {
         self.forget();
         if self.taken > 0 {
             self.budget.give_back(rt, self.taken);
             self.taken = 0;
         }
+    }
+}
+
+/// What the answers of one connection hold of it: as many bytes as those have whose blocks there still are. A short one
+/// is free.
+#[derive(Drop)]
+pub struct Room<'a> {
+    budget: &'a Budget,
+    /// How many bytes were taken of the budget.
+    taken: usize,
+}
+
+impl<'a> Room<'a> {
+    ghost use Rattle.std.specs.Prelude.{◌≡◌, ◌+◌, true, false, nat_lt};
+    ghost use Rattle.hg_web.specs.code.Budgets.{IsHeld};
+
+    /// There is no answer yet.
+    pub fn new(budget: &'a Budget) -> Room<'a>
+        ensures { result.taken ≡ 0 }
+    {
+        Room { budget, taken: 0 }
+    }
+
+    /// The answer, where there is room for it; else there is no memory for it.
+    pub(crate) fn hold<R: Wait, A: Allocator>(
+        &mut self,
+        rt: &R,
+        answer: HttpAnswer<A>,
+    ) -> HttpAnswer<A>
+        ensures { IsHeld answer self.old.taken result self.new.taken }
+    {
+        if self.take(rt, length_of(&answer).saturating_sub(FREE)) {
+            return answer;
+        }
+        HttpAnswer::Refused(RequestRefusal::NoMemory)
+    }
+
+    /// Takes so many bytes more, if they are left.
+    fn take<R: Wait>(&mut self, rt: &R, bytes: usize) -> bool
+        ensures taken { result ≡ true → self.new.taken ≡ self.old.taken + bytes }
+        ensures none { result ≡ false → self.new.taken ≡ self.old.taken }
+    {
+        if bytes == 0 {
+            return true;
+        }
+        let Some(taken) = self.taken.checked_add(bytes) else {
+            return false;
+        };
+        if !self.budget.take(rt, bytes) {
+            return false;
+        }
+        self.taken = taken;
+        true
+    }
+
+    /// Whether some is taken.
+    pub(crate) fn is_taken(&self) -> bool
+        ensures { result ≡ nat_lt 0 self.now.taken }
+    {
+        self.taken > 0
+    }
+
+    /// Gives all back: the blocks are gone.
+    pub(crate) fn clear<R: Wait>(&mut self, rt: &R)
+        ensures { self.new.taken ≡ 0 }
+    {
+        if self.taken > 0 {
+            self.budget.give_back(rt, self.taken);
+            self.taken = 0;
+        }
+    }
+}
+
+/// How long the text of an answer is, if it may be long.
+fn length_of<A: Allocator>(answer: &HttpAnswer<A>) -> usize
+    ensures { result ≡ length (text_in answer.now) }
+{
+    match answer {
+        HttpAnswer::Text(text) | HttpAnswer::Shown(_, text) => text.len(),
+        HttpAnswer::Refused(_)
+        | HttpAnswer::NotLet(_)
+        | HttpAnswer::Forbidden
+        | HttpAnswer::NotFound
+        | HttpAnswer::Misaddressed(_)
+        | HttpAnswer::Moved(_) => 0,
     }
 }

@@ -7,8 +7,9 @@
 //! of a view that all connections share, on a [`ViewCache`] under a lock of its own. Each answer that depends on the
 //! repository waits until the pushes that it rests on are on the device; where the store failed there is none.
 //! Whatever else comes is answered, also that memory was refused; but memory that `http_server` wants for itself may
-//! end the connection without an answer. A body which finds no room in the [`Budget`] of all of them is read to its end
-//! and dropped, and is answered so. A [`Policy`] is asked of each push before it runs.
+//! end the connection without an answer. A body which finds no room in the [`Budget`] of all connections is read to its
+//! end and dropped, and is answered so. An answer takes [`Room`] of it too, as long as its connection keeps its block. A
+//! [`Policy`] is asked of each push before it runs.
 //!
 //! The form of requests and answers is that of Mercurial's `internals.wireprotocol`, "HTTP Version 1
 //! Transport".
@@ -31,7 +32,7 @@ mod viewing;
 mod wire;
 
 pub use answering::answer_request;
-pub use budget::Budget;
+pub use budget::{Budget, Room};
 pub use hg_http::{Address, Policy, Verdict};
 pub use hg_queries::{Denial, Dismissal, Shown, ViewCache, Watch, WatchedPush};
 pub use serve::{ConnectionEnd, serve_http};

@@ -131,6 +131,8 @@ const LOST: &[u8] =
 enum Stretch {
     /// HTTP has nothing more to do.
     Done,
+    /// All requests that came were answered, and all answers were sent.
+    Answered,
     /// A request found no room. Those before it were answered, and all answers were sent.
     Refused {
         /// Whether it was read whole.
@@ -138,7 +140,8 @@ enum Stretch {
     },
 }
 
-/// Serves one stretch of requests after the other: each ends where a request finds no room.
+/// Serves one stretch of requests after the other: each ends where a request finds no room, or where a long body was
+/// answered or a long answer was sent, so that its memory is given back.
 fn serve_stretches<
     J: Storing<A>,
     D: Device,
@@ -176,12 +179,14 @@ fn serve_stretches<
             reader,
             writer,
         );
-        // Dropped here once, and not at each place where the function returns: with its block what was taken for it
+        // Dropped here once, and not at each place where the function returns: with its blocks what was taken for them
         // goes back, however it ended.
         drop(connection);
         share.clear(rt);
+        wire.give_room_back();
         match ended? {
             Stretch::Done => return Ok(()),
+            Stretch::Answered => {}
             Stretch::Refused { is_whole } => {
                 if refuse(is_whole, &mut follower, reader, writer)? {
                     return Ok(());
@@ -260,6 +265,7 @@ fn last_refusal(
 {
     match ended {
         Ok(Stretch::Done) => unread(connection),
+        Ok(Stretch::Answered) => None,
         Ok(Stretch::Refused { .. }) => Some(no_room_or_lost(share.has_ended())),
         Err(_) => lost_if(share.is_begun()),
     }
@@ -372,7 +378,8 @@ fn pass_over<I: BufRead>(is_whole: bool, follower: &mut Follower, reader: &mut I
     Err(ErrorKind::TimedOut.into())
 }
 
-/// Reads, answers and writes until the connection is done, or a request finds no room.
+/// Reads, answers and writes until the connection is done, or a long body was answered or a long answer was sent, or a
+/// request finds no room.
 fn converse<
     J: Storing<A>,
     D: Device,
@@ -422,6 +429,9 @@ fn converse<
         if is_idle {
             // The peer may be waiting for what a buffered writer holds.
             writer.flush()?;
+            if is_whole && keeps_block(share, wire) {
+                return Ok(Stretch::Answered);
+            }
             if !share.has_room() {
                 return Ok(Stretch::Refused { is_whole });
             }
@@ -434,6 +444,19 @@ fn converse<
         }
     }
     Err(ErrorKind::TimedOut.into())
+}
+
+/// Whether a block is kept for nothing: that of a long body which was answered, or of a long answer.
+fn keeps_block<
+    J: Storing<A>,
+    D: Device,
+    R: Wait,
+    S: Shown<A>,
+    V: Watch<A>,
+    P: Policy<A>,
+    A: Allocator + Copy,
+>(share: &Share<'_>, wire: &Wire<'_, J, D, R, S, V, P, A>) -> bool {
+    share.is_idle() || wire.holds_room()
 }
 
 /// Answers what was received, and says whether anything was. What came for it is forgotten.

@@ -5,6 +5,7 @@ ghost use Rattle.hg_commit.specs.Clients.{IsKept};
 ghost use Rattle.hg_web.specs.Answering.{AnswersView, around_of, OrLacks};
 ghost use Rattle.hg_web.specs.Pushes.{Answered};
 
+use crate::budget::Room;
 use crate::looking::{Asking, look_kept};
 use crate::terms::WebTerms;
 use hg_commit::{KeptClient, NotStored, Storing};
@@ -15,12 +16,13 @@ use hg_store::Device;
 use std::alloc::Allocator;
 use std::sync::Wait;
 
-/// Answers what was asked for without a command.
+/// Answers what was asked for without a command, where there is room for it.
 pub fn answer_view<J: Storing<A>, D: Device, A: Allocator + Copy, R: Wait, S: Shown<A>>(
     keeping: &Keeping<'_, J, D, R, A>,
     terms: &WebTerms<'_, S>,
     client: KeptClient<J, A>,
     view: Option<StatusView>,
+    room: &mut Room<'_>,
 ) -> (KeptClient<J, A>, Result<HttpAnswer<A>, NotStored>)
     ensures { Answered (OrLacks true (AnswersView J.first
         (around_of (IsKept D.seen D.may_leave D.moment J.head J.stored J.first keeping.now.ledger.now.has_beats)
@@ -37,10 +39,10 @@ pub fn answer_view<J: Storing<A>, D: Device, A: Allocator + Copy, R: Wait, S: Sh
     };
     let (client, looked) = look_kept(keeping, client, &Asking { question });
     match looked {
-        Ok((text, rests)) => (
-            client,
-            Ok(shown_answer(keeping.alloc, view, text, terms.stored, rests)),
-        ),
+        Ok((text, rests)) => {
+            let answer = shown_answer(keeping.alloc, view, text, terms.stored, rests);
+            (client, Ok(room.hold(keeping.rt, answer)))
+        }
         Err(fault) => (client, Err(fault)),
     }
 }

@@ -6,6 +6,7 @@ ghost use Rattle.hg_commit.specs.Clients.{IsKept, IsLater};
 ghost use Rattle.hg_web.specs.Answering.{Responds};
 
 use crate::answering::answer_request;
+use crate::budget::Room;
 use crate::terms::{Host, WebTerms};
 use bytes::Bytes;
 use hg_commit::{KeptClient, NotStored, Storing};
@@ -40,6 +41,8 @@ pub struct Wire<
     watch: &'a mut V,
     policy: P,
     client: Option<KeptClient<J, A>>,
+    /// What the answers hold of the budget.
+    room: Room<'a>,
     /// How many requests were answered.
     answered: u64,
     /// Whether the store failed before a request was answered.
@@ -115,6 +118,7 @@ where
             watch,
             policy,
             client: Some(client),
+            room: Room::new(terms.budget),
             answered: 0,
             has_failed: false,
             spare: Vec::new(global),
@@ -141,6 +145,18 @@ where
         hold(self.global, &mut self.spare)
     }
 
+    /// Whether answers hold some of the budget.
+    pub(crate) fn holds_room(&self) -> bool {
+        self.room.is_taken()
+    }
+
+    /// Gives back what the answers held: their blocks are gone.
+    pub(crate) fn give_room_back(&mut self)
+        ensures { self.new ≡ self.old }
+    {
+        self.room.clear(self.host.keeping.rt);
+    }
+
     /// Tells who watches why a request was refused.
     pub(crate) fn dismiss(&mut self, why: Dismissal)
         ensures { self.new ≡ self.old }
@@ -148,24 +164,27 @@ where
         self.watch.dismissed(why);
     }
 
-    /// Its client and its policy, and whether the store failed before a request was answered.
+    /// Its client and its policy, and whether the store failed before a request was answered. What its answers held is
+    /// given back.
     pub fn into_parts(self) -> (KeptClient<J, A>, P, bool)
         ensures later { IsLater self.entry.seen result.0 }
         ensures same { result.2 ≡ false → result.0 ≡ self.entry.seen }
         ensures asked { result.2 ≡ false → P.asked result.1 ≡ self.entry.asked }
     {
         let Wire {
-            host: _,
+            host,
             terms: _,
             global: _,
             watch: _,
             policy,
             client,
+            mut room,
             answered: _,
             has_failed,
             spare: _,
             seen: _,
         } = self;
+        room.clear(host.keeping.rt);
         match client {
             Some(client) => (client, policy, has_failed),
             None => unreachable!(),
@@ -197,6 +216,7 @@ where
             self.terms,
             client,
             request,
+            &mut self.room,
             &mut *self.watch,
             &mut self.policy,
         );

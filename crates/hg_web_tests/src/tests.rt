@@ -13,6 +13,7 @@ mod memory;
 mod pieces;
 mod refused;
 mod requests;
+mod room;
 mod views;
 
 use crate::tests::conversations::{
@@ -43,9 +44,12 @@ use std::random::RandomSource;
 use std::sync::{Mutex, Wait};
 use std::test::*;
 
-/// A page of one word, and as many counters as there are changesets.
+/// A page of one word with a tail, and one counter.
 #[derive(Drop)]
-struct Words;
+struct Words {
+    /// How many bytes stand behind the word.
+    tail: usize,
+}
 
 impl<A: Allocator + Copy> Shown<A> for Words {
     ghost use Rattle.std.specs.Prelude.{⊤};
@@ -56,7 +60,11 @@ impl<A: Allocator + Copy> Shown<A> for Words {
 
     fn page(&self, alloc: A, repo: &Repo<A>) -> Result<Seq<u8, A>, NoMemory> {
         let _rows = repo.settings();
-        Seq::copy_of(alloc, b"<p>hello".as_slice())
+        let mut text = Vec::from_slice(alloc, b"<p>hello".as_slice())?;
+        for _ in 0..self.tail {
+            text.push(b'!')?;
+        }
+        Ok(Seq::from_vec(text))
     }
 
     fn metrics(&self, alloc: A, repo: &Repo<A>) -> Result<Seq<u8, A>, NoMemory> {
@@ -183,8 +191,10 @@ struct Way<'a> {
     step: usize,
     /// How many calls the device has before it fails.
     calls: usize,
-    /// What all bodies hold together.
+    /// What all bodies and all answers hold together.
     budget: usize,
+    /// How many bytes the page has behind its word.
+    tail: usize,
     /// What the server answers to.
     address: Address<'a>,
     /// The field that says who pushes.
@@ -210,6 +220,7 @@ const PLAIN: Way<'static> = Way {
     step: 1_000_000,
     calls: 1_000_000,
     budget: 1_000_000,
+    tail: 0,
     address: ANYWHERE,
     user: None,
     name: b"",
@@ -324,8 +335,9 @@ fn play<J: Storing<Global>, R: RandomSource + Wait + Abort>(
         Err(_parts) => panic!(rt; "no memory for a ledger"),
     };
     let budget = Budget::new(way.budget);
+    let shown = Words { tail: way.tail };
     let terms = WebTerms {
-        shown: &Words,
+        shown: &shown,
         budget: &budget,
         address: way.address,
         user: way.user,

@@ -10,7 +10,8 @@ use Rattle.http_server.specs.History.{History, IsDone, IsServed}
 use Rattle.hg_http.specs.declared.follow.Follower.{Follower}
 use Rattle.hg_http.specs.Following.{AreRequests, FollowsAt, KeepsUp, limits_of}
 use Rattle.hg_web.specs.declared.serve.Stretch.{Stretch}
-use Rattle.hg_web.specs.declared.serve.Stretch.TheVariants.{Done, Refused}
+use Rattle.hg_web.specs.declared.serve.Stretch.TheVariants.{Answered, Done, Refused}
+use Rattle.hg_web.specs.Serving.{IsAnswered}
 
 -- these bytes were read, and nothing was sent or called
 pub record HasRead (old new : History) (more : List ℕ) : Type 0 where
@@ -71,12 +72,14 @@ pub record Went {V : Type 0} (answers : V → Asked (List ℕ) → Response → 
   pub written : Appends out sent h.sent
   pub calls : Chain answers old h.calls new
 
--- How a stretch ends: it is done, or it waits at a request that found no room, or it broke off.
+-- How a stretch ends: it is done, or all was answered, or it waits at a request that found no room, or it broke off.
 abbrev pub EndsStretch : {V E : Type 0} → Config → (V → Asked (List ℕ) → Response → V → Type 0) → V → V →
     Option (List ℕ) → Option (List ℕ) → Option (List ℕ) → Option (List ℕ) → Follower → Result Stretch E → Type 0
 EndsStretch config answers old new input left out sent f (Ok Done) =
     (h : History) × ∥ IsServed config h ∥₁ × Went answers old new input left out sent h []
     × (h.state ≢ Aborted) × IsDone h
+EndsStretch config answers old new input left out sent f (Ok Answered) =
+    (h : History) × ∥ IsServed config h ∥₁ × Went answers old new input left out sent h [] × IsAnswered config h
 EndsStretch config answers old new input left out sent f (Ok (Refused is_whole)) =
     (h : History) × ∥ IsServed config h ∥₁
     × ((dropped : List ℕ) × Went answers old new input left out sent h dropped × Waits config h dropped is_whole f)

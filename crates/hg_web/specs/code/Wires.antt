@@ -1,5 +1,5 @@
 -- What the client of a connection has seen.
-use Rattle.std.specs.Prelude.{ℕ, List, [], ◌∷◌, Option, Some, None}
+use Rattle.std.specs.Prelude.{List, [], ◌∷◌, Option, Some, None}
 use Rattle.hg_commit.specs.Clients.{KeptSeen}
 use Rattle.hg_commit.specs.Orders.{no_receipt}
 use Rattle.hg_http.specs.Policies.{Asked}

@@ -145,7 +145,7 @@ fn converse_thrice<J: Storing<A>, A: Allocator + Copy, R: RandomSource + Wait + 
 ) -> (Client<J, A>, Client<J, A>, Came) {
     let budget = Budget::new(1_000_000);
     let terms = WebTerms {
-        shown: &Words,
+        shown: &Words { tail: 0 },
         budget: &budget,
         address: ANYWHERE,
         user: None,

@@ -252,9 +252,31 @@ fn a_body_finds_no_room(rt: HostRuntime) {
     assert_no_room(&rt, alloc, chunked.as_slice());
 }
 
-/// What a body takes is taken once for its connection, and is there again for the next one.
+/// Where 20,000 bytes are left a request may have 16 KiB more, and what one read brings beyond: here a byte.
 #[test]
-fn what_a_body_takes_stays_with_its_connection(rt: HostRuntime) {
+fn a_body_is_as_long_as_its_room(rt: HostRuntime) {
+    let alloc = rt.alloc();
+    let head = push_with_length(&rt, alloc, 36_000, &[]).len();
+    for (whole, told) in [
+        (
+            36_385usize,
+            b"messagestream fault 1\0\0\0\0\0\0\0\0".as_slice(),
+        ),
+        (36_386usize, NO_ROOM),
+    ] {
+        let length = whole.saturating_sub(head);
+        let body = long_body(&rt, alloc, length);
+        let asked = push_with_length(&rt, alloc, length, body.as_slice());
+        assert_eq!(rt; asked.len(), whole);
+        let left = served(&rt, alloc, &[asked.as_slice()], narrow(1));
+        assert!(rt; left.end == ConnectionEnd::Done);
+        assert!(rt; left.told.ends_with(told));
+    }
+}
+
+/// What a body takes is given back once it was answered, and is there again for the next one.
+#[test]
+fn what_a_body_took_is_given_back(rt: HostRuntime) {
     let alloc = rt.alloc();
     let body = long_body(&rt, alloc, 30_000);
     let asked = push_with_length(&rt, alloc, 30_000, body.as_slice());

@@ -11,7 +11,7 @@ pub fn get<R: Abort>(rt: &R, alloc: Global, command: &str, arguments: &str) -> V
 }
 
 /// A request of a client that changes something.
-fn post<R: Abort>(
+pub fn post<R: Abort>(
     rt: &R,
     alloc: Global,
     command: &str,

@@ -4,10 +4,10 @@ use Rattle.http_server.specs.Connection.{history}
 use Rattle.http_server.specs.History.{IsServed, Rests}
 use Rattle.http_server.proofs.Theorems.{always_served}
 use Rattle.hg_web.proofs.Served.{nothing_waits}
-use Rattle.hg_web.proofs.Stretches.{calls_grow, ends_err, kept_same, not_false, open_still}
+use Rattle.hg_web.proofs.Stretches.{all_answered, calls_grow, ends_err, kept_same, not_false, open_still}
 use Rattle.hg_web.proofs.Stretches.{waits_all, waits_first, waits_later, waits_read}
 use Rattle.hg_web.proofs.Stretches.{went_all, went_kept, went_none, went_on, went_read, went_sent, went_told}
-use Rattle.hg_web.proofs.serve.converse.Goals.{then-is_idle+in_ok-flush-2+else-not-has_room+in_ok-came+else-not-came+else-not-has_spare}
+use Rattle.hg_web.proofs.serve.converse.Goals.{then-is_idle+in_ok-flush-2+else-is_whole+else-not-has_room+in_ok-came+else-not-came+else-not-has_spare}
 use Rattle.hg_web.proofs.serve.converse.Goals.{else-is_idle}
 use Rattle.hg_web.proofs.serve.converse.Goals as goal
 
@@ -108,6 +108,33 @@ returns-in_err-flush-2 g c =
     (went_on _ _ _ _ _ _ _ _ (history c.turns.connection) h inv.0 a.ensures.calls a.ensures.quiet) c.send_all.ensures.sent)
     (kept_same _) c.flush-then-is_idle.ensures.bytes)
 
+pub returns-then-keeps_block : goal.returns-then-keeps_block
+returns-then-keeps_block g c =
+    let inv = c.turns.invariant in
+    let a = c.advance-has_answered in
+    let before = history c.turns.connection in
+    let h = history a.new.connection in
+    let next = history c.send_all.new.connection in
+    let sent = c.send_all.ensures.sent in
+    let config = a.ensures.config ∙ inv.1 in
+    let none = nothing_waits _ h.pending c.wants_write-is_idle.ensures.1 c.if-is_idle.true in
+    let still = open_still next c.in_ok-send_all.ensures.all
+    (λ done. let wrong = subst IsTrue c.if-is_done.false (c.is_done.ensures.1 done) in cc) in
+    let served = subst (λ k. ∥ IsServed k next ∥₁) (c.send_all.ensures.config ∙ config)
+    (always_served c.send_all.new.connection) in (
+      next,
+      served,
+      went_kept _ _ _ _ _ _ _ _ _ next []
+          (went_sent _ _ _ _ _ _ _ _ h next
+          (went_on _ _ _ _ _ _ _ _ before h inv.0 a.ensures.calls a.ensures.quiet) sent)
+          (kept_same _) c.flush-then-is_idle.ensures.bytes,
+      all_answered _ next h c.turns.is_whole c.turns.follower c.if-is_whole.true served
+          (waits_later _ before next c.turns.is_whole c.turns.follower inv.2 (sent.received ∙ a.ensures.quiet.0)
+          (calls_grow before.calls h.calls next.calls a.ensures.calls.0 a.ensures.calls.1 sent.calls)
+          still c.in_ok-send_all.ensures.all)
+          (subst (λ k. Rests k h) config a.ensures.rests) (sym sent.state ∙ still) none sent.received sent.calls,
+    )
+
 pub returns-then-not-has_room : goal.returns-then-not-has_room
 returns-then-not-has_room g c =
     let inv = c.turns.invariant in
@@ -198,7 +225,7 @@ turns-preserved g c =
     (calls_grow before.calls h.calls next.calls a.ensures.calls.0 a.ensures.calls.1 sent.calls)
     still c.in_ok-send_all.ensures.all in
     elim c.if-is_idle.branch [
-      | then-is_idle+in_ok-flush-2+else-not-has_room+in_ok-came+else-not-came+else-not-has_spare w ↦
+      | then-is_idle+in_ok-flush-2+else-is_whole+else-not-has_room+in_ok-came+else-not-came+else-not-has_spare w ↦
           let now = history w.read_on.new.connection in
           let none = nothing_waits _ h.pending c.wants_write-is_idle.ensures.1 w.if-is_idle.true in
           let b = w.in_ok-came.ensures.ok in
