@@ -202,7 +202,9 @@ class Cluster:
         self.ask("osd", "pool", "create", "metadata")
         self.ask("osd", "pool", "create", "data")
         self.ask("fs", "new", "store", "metadata", "data")
-        self.ask("fs", "set", "store", "session_timeout", str(SESSION))
+        # the second: a dead mount of which nobody wants anything back keeps its locks up to there, 300 seconds if left out
+        for name in ("session_timeout", "session_autoclose"):
+            self.ask("fs", "set", "store", name, str(SESSION))
         for name in ("m0", "m1"):
             os.makedirs(f"{self.room}/mds.{name}")
         self.begin("mds.m0", "mds.m1")

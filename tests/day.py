@@ -254,12 +254,12 @@ def set_between(day, first, last):
 
 def lacks(before, after, clone, moved):
     """What a clone lacks of what was there before it, and still is behind it. A bookmark may also be where a push put
-    it meanwhile."""
+    it meanwhile. One on an obsolete changeset may be missing: a clone of Mercurial's own leaves it out too."""
     (was, marks), (still, marks_still), (has, marks_have) = before, after, clone
     return ([node for node in was if node in still and node not in has]
             + [node for node, phase in was.items() if phase == "0" and has.get(node, "0") != "0"]
             + [f"the bookmark {mark} on {node}: it is on {marks_have.get(mark)}" for mark, node in marks.items()
-               if marks_still.get(mark) == node and marks_have.get(mark) != node
+               if node in was and node in still and marks_still.get(mark) == node and marks_have.get(mark) != node
                and marks_have.get(mark, "") not in moved.get(mark, ())])
 
 

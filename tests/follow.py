@@ -335,6 +335,78 @@ def a_sync_before_each_frame(room):
         raise Wrong(f"{looked} looks and {written} writes were seen")
 
 
+class Growth(threading.Thread):
+    """Writes a store as a server does, a batch behind the other: first what stands behind its gate, and then the gate."""
+
+    def __init__(self, room, data, ends, pause):
+        super().__init__(daemon=True)
+        self.name_of, self.data, self.ends, self.pause = room.path("store/pushes"), data, ends, pause
+
+    def run(self):
+        with open(self.name_of, "r+b", buffering=0) as file:
+            for begin, end in zip(self.ends, self.ends[1:]):
+                os.pwrite(file.fileno(), self.data[begin + 1:end] + SHUT, begin + 1)
+                os.pwrite(file.fileno(), self.data[begin:begin + 1], begin)
+                time.sleep(self.pause)
+
+
+def reads_in(trace):
+    """How often a store was asked for its length, read, and asked for by its name; a read that is not within the length
+    that was told last is wrong."""
+    told, asked, read, named = {}, 0, 0, 0
+    with open(trace, encoding="utf-8", errors="replace") as lines:
+        for line in lines:
+            if length := re.search(r"(?:fstat|newfstatat|statx)\((\d+)<[^>]*/store/pushes>.*st(?:x)?_size=(\d+)", line):
+                asked, told[length[1]] = asked + 1, int(length[2])
+            elif part := re.search(r"pread64\((\d+)<[^>]*/store/pushes>.*, (\d+), (\d+)\) *= \d+", line):
+                read += 1
+                if int(part[2]) + int(part[3]) > told.get(part[1], 0):
+                    raise Wrong(f"a read behind the length that was told ({told.get(part[1])}): {line}")
+            elif re.search(r"\b(read|readv|preadv2?|mmap)\(.*<[^>]*/store/pushes>", line):
+                raise Wrong(f"a read that has no bound: {line}")
+            elif re.search(r"(?:stat|lstat|newfstatat|statx)\(AT_FDCWD.*/pushes\"", line):
+                named += 1
+    return asked, read, named
+
+
+@case
+def no_byte_behind_the_length(room):
+    """A store that another process makes longer is read as far as it was told to reach: by `log --follow`, which looks five
+    times a second at most, by `log`, `log --list` and `report`."""
+    if not shutil.which("strace"):
+        print("    strace is missing: what is read was not looked at")
+        return
+    bundles = [bundle((b"note", (), b"%d" % place * (1 + 9973 * (place % 19)))) for place in range(150)]
+    marks = stamps(len(bundles))
+    data, ends = store_of(bundles, stamps=marks)
+    frames = sum(len(it) + 41 + len(mark[1]) for it, mark in zip(bundles, marks))
+    calls = "trace=fstat,newfstatat,statx,lstat,stat,read,readv,pread64,preadv,preadv2,mmap"
+    for words in (("log", "--store", "store", "--follow"), ("log", "--store", "store"),
+                  ("log", "--store", "store", "--list"), ("report", "--store", "store")):
+        room.store(data[:ends[1]] + SHUT)
+        follows, trace = "--follow" in words, room.path("trace")
+        growth = Growth(room, data, ends[1:], 0.02 if follows else 0.001)
+        began = time.monotonic()
+        growth.start()
+        with open(room.path("frames"), "wb") as out, \
+                subprocess.Popen(["strace", "-f", "-y", "-o", trace, "-e", calls, PROGRAM, *words], cwd=room.folder,
+                                 stdout=out, stderr=subprocess.DEVNULL) as process:
+            growth.join()
+            end = time.monotonic() + SOON
+            while follows and os.path.getsize(room.path("frames")) < frames and time.monotonic() < end:
+                time.sleep(0.05)
+            seconds = time.monotonic() - began
+            if follows:
+                process.kill()
+        asked, read, named = reads_in(trace)
+        if follows:
+            want("bytes of frames", os.path.getsize(room.path("frames")), frames)
+            if named > 5 * seconds + 4 or asked > 2 * named + 8 or read < 2 * named:
+                raise Wrong(f"{asked} lengths, {named} names and {read} reads in {seconds:.1f} seconds")
+        elif asked < 1 or read < 1:
+            raise Wrong(f"{asked} lengths and {read} reads of {words}")
+
+
 class Server:
     def __init__(self, room):
         self.store, self.process, self.address = room.path("store"), None, "127.0.0.1:0"

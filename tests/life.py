@@ -1,8 +1,8 @@
 """How `host` of the built program lives with connections that do nothing, or little: life.py PROGRAM [NAME..]
 
 A thousand silent connections beside 24 that push; connections that are silent or slow, in what they send and in
-what they read; bodies beyond the memory, also of connections that stay; and descriptors that run out. It ends by itself, within a minute on a
-machine with little else to do.
+what they read; bodies and answers beyond the memory, also of connections that stay; and descriptors that run out. It
+ends by itself, within two minutes on a machine with little else to do.
 """
 import contextlib
 import os
@@ -15,10 +15,11 @@ import sys
 import tempfile
 import time
 
-from bundles import CAPS, EMPTY, NULL, ROOT_PUSH, bundle, group
+from bundles import CAPS, EMPTY, NULL, ROOT_PUSH, bundle, group, node_of
 from host import EMPTY_REPLY, Host, Wrong, answer, request, want
 
 PUSH = ("content-type: application/mercurial-0.1", "x-hgarg-1: heads=666f726365")
+ROOT_NODE = node_of(b"root")
 CASES = []
 
 
@@ -213,6 +214,12 @@ def resident(host):
         return int(re.search(r"^VmHWM:\s+(\d+) kB", status.read(), re.M)[1]) / 1024
 
 
+def held_by(host):
+    """How many MiB the server holds now."""
+    with open(f"/proc/{host.process.pid}/status", encoding="ascii") as status:
+        return int(re.search(r"^VmRSS:\s+(\d+) kB", status.read(), re.M)[1]) / 1024
+
+
 def is_refused(line):
     """Whether the other side answered that there is no memory, or ended the connection. It is not waited for."""
     line.setblocking(False)
@@ -275,10 +282,9 @@ def bodies_hold_no_more_than_the_memory(host):
 
 
 @case
-def bodies_that_were_answered_keep_their_memory(host):
-    """Forty connections that stay after a body of 6 MiB each, where 16 MiB are allowed for all. A connection keeps the
-    block of its longest body, so there is room for two, and the others are refused. These two go on: their next
-    bodies lie in the same blocks. When all are gone, there is room again."""
+def bodies_that_were_answered_give_their_memory_back(host):
+    """Forty connections that stay after a body of 6 MiB each, where 16 MiB are allowed for all: each has room, and so
+    has its next body."""
     with gives_back():
         host.start("--memory", str(16 << 20))
     push, lines, refused = request("/?cmd=unbundle", bytes(6 << 20), PUSH), [], []
@@ -293,14 +299,74 @@ def bodies_that_were_answered_keep_their_memory(host):
     most = resident(host)
     print(f"    {sum(refused)} of 40 bodies of 6 MiB are refused where 16 MiB are allowed and connections stay; the"
           f" process held {most:.0f} MiB at most")
-    want("the first two have room", refused, [False] * 2 + [True] * 38)
+    want("all have room", refused, [False] * 40)
     want("it held less than 64 MiB", most < 64, True)
-    want("they have it still", [is_without_room(it) for it in lines[:3]], [False, False, True])
+    want("they have it again", [is_without_room(it) for it in lines], [False] * 40)
     for it in lines:
         it.close()
     want("they are gone", becomes(host, 1), True)
-    with host.connect() as line:
-        want("another has it then", is_without_room(line), False)
+
+
+def start_with_bookmarks(host, memory):
+    """Starts a server with so many MiB for bodies and answers, whose bookmarks are an answer of 13 MB."""
+    with gives_back():
+        host.start("--memory", str(memory << 20))
+    names = b"".join(ROOT_NODE + (90).to_bytes(2, "big") + b"%090d" % place for place in range(100_000))
+    want("the bookmarks are there", host.push(bundle(CAPS, group((b"root", NULL)), (b"bookmarks", (), names)))[0], 200)
+
+
+BOOKMARKS = request("/?cmd=listkeys&namespace=bookmarks", None, ())
+NO_ROOM = ("application/hg-error", b"out of memory\n")
+
+
+def is_whole(told):
+    """Whether an answer has all bookmarks."""
+    return len(told[2]) == 13_199_999
+
+
+@case
+def answers_that_nobody_reads(host):
+    """Answers of 13 MB count until they are sent: where 64 MiB are allowed, seven connections that read nothing have
+    five of them, and the others are told that there is no memory. A push beside them is done. Once they are read there
+    is room again."""
+    start_with_bookmarks(host, 64)
+    lines, before = [], held_by(host)
+    for _ in range(7):
+        lines.append(host.connect())
+        lines[-1].sendall(BOOKMARKS)
+        time.sleep(0.5)
+    held = held_by(host) - before
+    want("a push beside them", host.push(EMPTY)[2], EMPTY_REPLY)
+    told = [answer(it.makefile("rb")) for it in lines]
+    print(f"    {sum(is_whole(it) for it in told)} of 7 answers of 13 MB are held where 64 MiB are allowed: {held:.0f} MiB")
+    want("which are held", [is_whole(it) for it in told], [True] * 5 + [False] * 2)
+    want("what the others are told", [it[1:] for it in told[5:]], [NO_ROOM] * 2)
+    want("it held less than 80 MiB", held < 80, True)
+    want("there is room again", [ask_on(it) for it in lines], [True] * 7)
+    for it in lines:
+        it.close()
+    want("they are gone", becomes(host, 1), True)
+
+
+def ask_on(line):
+    """Whether all bookmarks are answered on a connection."""
+    line.sendall(BOOKMARKS)
+    return is_whole(answer(line.makefile("rb")))
+
+
+@case
+def answers_that_were_read_give_their_memory_back(host):
+    """Forty connections that stay once they have read an answer of 13 MB, where 32 MiB are allowed for all: each has
+    room, and so has its next answer. None keeps what its answer was in."""
+    start_with_bookmarks(host, 32)
+    lines, before = [host.connect() for _ in range(40)], held_by(host)
+    for _ in range(2):
+        want("each is answered", [ask_on(it) for it in lines], [True] * 40)
+    held = held_by(host) - before
+    print(f"    40 connections that read an answer of 13 MB and stay hold {held:.0f} MiB")
+    want("they hold less than 16 MiB", held < 16, True)
+    for it in lines:
+        it.close()
 
 
 @case

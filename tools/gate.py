@@ -48,11 +48,14 @@ PIECES = {
     "what is synced": ["tests/synced.py"],
     "a lying disk": ["tests/lying.py"],
     "standbys": ["tests/standby.py"],
+    "weighed pushes": ["tests/weighed.py"],
     "examples": ["tests/check.sh"],
+    "branch maps": ["tests/branches.py"],
 }
 # what looks how long an answer takes, or may lose the end of one on a busy machine: nothing runs beside it
 ALONE = {
     "clients over HTTP": ["tests/host.sh"],
+    "reads of large repositories": ["tests/reads.py"],
     "a limit of memory": ["tests/hostile.sh"],
     "a long life": ["tests/life.py"],
 }

@@ -1,7 +1,7 @@
 #!/usr/bin/env python3
 """Pushes a second to a store on CephFS, with somebody who follows it on another machine and without.
 
-    python3 bench/cluster/run.py PROGRAM [--rounds N] [--seconds S] [--size BYTES] [--connections N] [--calls] [--set LINE]..
+    python3 bench/cluster/run.py PROGRAM [--rounds N] [--seconds S] [--size BYTES] [--connections N] [--set LINE]..
 
 On the cluster of tests/ceph_cluster.py, `host` runs on one machine, and pushes of 2 KiB (or BYTES) come there over 64
 connections (or N) for S seconds (5). In each of N rounds (5) they take turns:
@@ -13,8 +13,8 @@ connections (or N) for S seconds (5). In each of N rounds (5) they take turns:
 
 It prints the middle of the rounds, the least and the most, and how long after the last answer the follower had all.
 For each push it prints how many operations the OSDs and the MDS were asked for by the host's machine and the
-follower's, and how many rights the MDS took back. --calls counts the calls of the server by strace, in a round of its
-own. It needs what the cluster needs, and a compiler of C; the mirror needs hg.
+follower's, and how many rights the MDS took back. It needs what the cluster needs, and a compiler of C; the mirror needs
+hg.
 """
 import argparse
 import glob
@@ -61,8 +61,8 @@ class Bench:
         sockets = glob.glob(f"{self.room}/run/{name}")
         return json.loads(run("ceph", "--admin-daemon", sockets[0], "perf", "dump")) if sockets else {}
 
-    def host(self, folder, *flags, before=()):
-        process = Process(self.room, "one", f"host-{self.number}", *before, self.program, "host", *flags, "--store", folder,
+    def host(self, folder, *flags):
+        process = Process(self.room, "one", f"host-{self.number}", self.program, "host", *flags, "--store", folder,
                           "--listen", f"127.0.0.1:{PORT}", "--connections", "100")
         until("the host serves", lambda: process.status() is not None or "listening on" in process.said())
         if process.status() is not None:
@@ -98,13 +98,13 @@ class Bench:
                 return 0
         return process, count
 
-    def measure(self, kind, seconds, before=()):
+    def measure(self, kind, seconds):
         """Pushes a second, how late the follower was, and the operations of each push."""
         self.number += 1
         name = f"store-{self.number}"
         folder = f"{self.room if kind == 'local' else self.machines['one'].at}/{name}"
         self.host(folder).kill()
-        host = self.host(folder, *([] if kind == "local" else ["--shared"]), before=before)
+        host = self.host(folder, *([] if kind == "local" else ["--shared"]))
         follower = None
         if kind in ("followed", "mirrored"):
             follower, count = self.follow(kind, f"{self.machines['three'].at}/{name}")
@@ -150,19 +150,6 @@ def show(found):
             print("    " + ", ".join(f"{what}: {statistics.median([row[2][what] for row in rows]):.2f}" for what in rows[0][2]))
 
 
-def calls(bench):
-    """The calls of the server by strace, for each push."""
-    for kind in ("shared", "followed"):
-        counts = f"{bench.room}/calls-{kind}"
-        before = ["strace", "-f", "-c", "-o", counts, "-e",
-                  "trace=pwrite64,fdatasync,fsync,statx,fstat,newfstatat,pread64,read"]
-        rate, _, _ = bench.measure(kind, 3, before=before)
-        with open(counts, encoding="utf-8") as file:
-            rows = [line.split() for line in file.read().splitlines()[2:]]
-        told = ", ".join(f"{row[-1]} {int(row[3]) / (3 * rate):.2f}" for row in rows if len(row) > 4 and row[-1] != "total")
-        print(f"calls of the server for each push, {kind}, under strace ({rate:.0f} a second): {told}")
-
-
 def inside(room, given):
     try:
         cluster, machines = ready(room, None, given.set)
@@ -178,8 +165,6 @@ def inside(room, given):
             print(f"round {number + 1}, {kind}: {row[0]:.0f}", file=sys.stderr, flush=True)
     print(f"{given.connections} connections, {given.size} bytes; load {os.getloadavg()[0]:.1f}")
     show(found)
-    if given.calls:
-        calls(bench)
     return 0
 
 
@@ -191,7 +176,6 @@ def main(words):
     asked.add_argument("--size", type=int, default=2048)
     asked.add_argument("--connections", type=int, default=64)
     asked.add_argument("--kinds", default="local,shared,followed")
-    asked.add_argument("--calls", action="store_true")
     asked.add_argument("--set", action="append", default=[])
     asked.add_argument("--inside", help=argparse.SUPPRESS)
     given = asked.parse_args(words)

@@ -8,9 +8,9 @@
    sqlite  so many threads with a connection each, which insert a record in a transaction of its own, with a
            write-ahead log and synchronous=FULL
 
-   A batch is written behind a shut gate, each record by two writes, with a shut gate at its end, and is synced;
-   then its first gate is opened by one byte, and synced. Each thread writes from memory of its own. No digest is
-   written. It prints batches and records a second. */
+   A batch is written behind a shut gate, with a shut gate at its end, and is synced; then its first gate is opened by
+   one byte, and synced. Up to 1 MiB it is copied and written by one call, and else each record by two, from the memory
+   of its thread. No digest is written. It prints batches and records a second. */
 #define _GNU_SOURCE
 #include <fcntl.h>
 #include <openssl/sha.h>
@@ -62,17 +62,29 @@ static char *new_record(void) {
 /* The records that were handed in, each at the place of its number. */
 static const char *handed_in[PLACES];
 
+static char gathered[1 << 20];
+
+/* Gathers these bytes, or writes them from where they are. Gives the place behind them. */
+static off_t add(const char *from, size_t length, off_t at, int is_gathered) {
+    if (is_gathered)
+        memcpy(gathered + (at - end - 1), from, length);
+    else
+        put(from, length, at);
+    return at + length;
+}
+
 static void put_batch(long first, long records) {
     char head[HEAD] = {1};
     off_t at = end + 1;
+    int is_gathered = records * (HEAD + size) <= sizeof gathered;
     for (long i = 0; i < records; i++) {
         size_t skipped = i == 0;
-        put(head + skipped, HEAD - skipped, at);
-        at += HEAD - skipped;
-        put(handed_in[(first + i) % PLACES], size, at);
-        at += size;
+        at = add(head + skipped, HEAD - skipped, at, is_gathered);
+        at = add(handed_in[(first + i) % PLACES], size, at, is_gathered);
     }
-    put("\0", 1, at);
+    add("\0", 1, at, is_gathered);
+    if (is_gathered)
+        put(gathered, at - end, end + 1);
     sync_file();
     put("\1", 1, end);
     sync_file();

@@ -2,8 +2,8 @@
 //!
 //! [`serve_store`] serves the repository of a store that `hg_recovery` opened, and adds to the store:
 //! [`HostService::serve`] is one connection of it, over any reader and writer. A connection over a socket is
-//! not waited for longer than the terms say; `hg_tcp` has the places for connections. Where a hook is named, it is
-//! asked before each push.
+//! not waited for longer than the terms say; `hg_tcp` has the places for connections. Each push is weighed before it runs:
+//! one whose texts are long or copy much is refused. Where a hook is named, it is asked then.
 //!
 //! What one connection does never ends another, except where the store fails: then nothing more is answered. And
 //! where the numbers of pushes come to their end, each connection ends at its next read, and another server over

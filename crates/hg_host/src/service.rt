@@ -32,6 +32,7 @@ use hg_store::Device;
 use hg_tcp::{Line, Over, Patience, Places, Sent, drain, set_up};
 use hg_types::NoMemory;
 use hg_web::{Address, Budget, ConnectionEnd, Shown, ViewCache, WebTerms, serve_http};
+use hg_weighing::Weighing;
 use std::alloc::{AllocFailed, Global};
 use std::hash::RandomState;
 use std::io::{BufRead, BufReader, Write};
@@ -55,6 +56,8 @@ pub struct HostService<'a, J: Storing<Global>, D: Device, R: Wait + Clock> {
     ledger: Ledger<J, D>,
     /// The view that all who read share.
     shelf: Mutex<ViewCache<J>>,
+    /// Who looks for the bases of the deltas of pushes.
+    scout: Mutex<Client<J>>,
     /// The clients that no connection has.
     free: Mutex<HostedClients<J, D, Board<'a, R>>>,
     budget: Budget,
@@ -131,10 +134,12 @@ where
             }
         };
         let shelf = ViewCache::new(alloc, new_client(rt, &server));
+        let scout = new_client(rt, &server);
         Ok(HostService {
             server,
             ledger,
             shelf: Mutex::new(shelf),
+            scout: Mutex::new(scout),
             free: Mutex::new(free),
             budget: Budget::new(terms.memory),
             board,
@@ -159,6 +164,7 @@ where
             server,
             ledger,
             shelf,
+            scout,
             free,
             budget: _,
             board: _,
@@ -171,6 +177,7 @@ where
         let mut others = free.into_inner().into_clients();
         let witness = shelf.into_inner().into_witness();
         put(rt, &mut others, KeptClient::new(witness));
+        put(rt, &mut others, KeptClient::new(scout.into_inner()));
         join(rt, &mut clients, others);
         close_kept(rt, alloc, server, ledger, clients)
     }
@@ -310,7 +317,8 @@ where
                 slots: &self.slots,
             },
         };
-        let policy = self.policy(rt, alloc, stream)?;
+        let hook = self.hook(rt, alloc, stream)?;
+        let policy = self.weighing(rt, alloc, hook);
         let client = self.free_client(rt);
         let (client, policy, end) = self.serve(
             rt,
@@ -321,7 +329,7 @@ where
             &mut reader,
             &mut writer,
         );
-        drop(policy);
+        drop(policy.into_policy());
         self.leave(rt, client);
         // where an answer was the last, the client may still send what nobody reads
         if end == ConnectionEnd::Done && !patience.is_at_end() {
@@ -330,8 +338,20 @@ where
         Ok(end)
     }
 
+    /// Weighs each push, and asks then.
+    fn weighing<'s, P>(&'s self, rt: &'s R, alloc: Global, policy: P) -> Weighing<'s, J, R, P> {
+        Weighing {
+            rt,
+            alloc,
+            server: &self.server,
+            client: &self.scout,
+            most: self.terms.text,
+            policy,
+        }
+    }
+
     /// Who is asked of the pushes that come over a socket.
-    fn policy<'s>(
+    fn hook<'s>(
         &'s self,
         rt: &'s R,
         alloc: Global,

@@ -7,7 +7,7 @@ use std::net::{Shutdown, TcpListener, TcpStream};
 use std::time::{Duration, Instant};
 use std::{io, thread};
 
-/// For how many milliseconds connections are answered, at least.
+/// For how many milliseconds a connection is read, at most.
 const TURN: u64 = 1_000;
 
 /// For how many milliseconds nobody is looked for where nobody connects.
@@ -31,9 +31,13 @@ const UNAVAILABLE: &[u8] =
     b"HTTP/1.1 503 Service Unavailable\r\ncontent-type: text/plain; charset=utf-8\r\n\
 content-length: 8\r\nretry-after: 1\r\nconnection: close\r\n\r\nstandby\n";
 
-/// Answers who connects, for about a second: the page is the word `standby`, and all else is told to come again. The
-/// listener waits for nobody. An error where it or the clock fails.
-pub fn answer_as_standby<R: HostingRuntime>(rt: &R, listener: &TcpListener) -> io::Result<()> {
+/// Answers who connects, for about as long as that: the page is the word `standby`, and all else is told to come again.
+/// The listener waits for nobody. An error where it or the clock fails.
+pub fn answer_as_standby<R: HostingRuntime>(
+    rt: &R,
+    listener: &TcpListener,
+    turn: Duration,
+) -> io::Result<()> {
     listener.set_nonblocking(true)?;
     let start = Instant::now(rt)?;
     for _ in 0..MOST {
@@ -43,16 +47,11 @@ pub fn answer_as_standby<R: HostingRuntime>(rt: &R, listener: &TcpListener) -> i
             }
             Err(_) => thread::sleep(rt, Duration::from_millis(PAUSE)),
         }
-        if is_over(rt, start)? {
+        if start.elapsed(rt)? >= turn {
             break;
         }
     }
     listener.set_nonblocking(false)
-}
-
-/// Whether a turn that began then is over.
-fn is_over<R: HostingRuntime>(rt: &R, start: Instant) -> io::Result<bool> {
-    Ok(start.elapsed(rt)? >= Duration::from_millis(TURN))
 }
 
 /// Answers one connection, which is then read to its end, so that a close does not take the answer back; but for no
@@ -66,7 +65,7 @@ fn answer<R: HostingRuntime>(rt: &R, stream: &TcpStream) -> io::Result<()> {
     line.write_all(answer_to(&piece[..count]))?;
     stream.shutdown(Shutdown::Write)?;
     for _ in 0..READS {
-        if line.read(&mut piece)? == 0 || is_over(rt, start)? {
+        if line.read(&mut piece)? == 0 || start.elapsed(rt)? >= Duration::from_millis(TURN) {
             break;
         }
     }

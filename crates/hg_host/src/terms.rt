@@ -13,6 +13,8 @@ pub struct HostTerms<'a> {
     pub idle: u64,
     /// How many bytes the bodies of all open pushes hold together at most.
     pub memory: usize,
+    /// How many bytes the text of a changeset has at most.
+    pub text: u32,
     /// The path of its commands and its page. A slash at its end does not count.
     pub path: &'a str,
     /// The name that the field `host` of a request has to give, if it has to give one.

@@ -4,12 +4,11 @@ ghost use Rattle.std.specs.Prelude.{IfOk};
 ghost use Rattle.hg_recovery.specs.Opening.{IsOpened};
 
 use crate::opened::{not_opened, open_store, store_failed};
+use crate::standby::stand_by;
 use hg_commands::{Hosting, device_status, tell};
-use hg_host::{
-    Ended, HookAddress, HookTerms, HostTerms, HostingRuntime, Over, answer_as_standby, serve_store,
-};
+use hg_host::{Ended, HookAddress, HookTerms, HostTerms, HostingRuntime, Over, serve_store};
 use hg_recovery::{OpeningFault, Recovered};
-use hg_store::{Device, HostFile, StoreFault, StoreFile};
+use hg_store::{Device, HostFile, StoreFile};
 use std::fs::{File, Files};
 use std::hash::RandomState;
 use std::io;
@@ -37,41 +36,14 @@ pub fn host<R: Files<File = File> + AllocGlobal + HostingRuntime>(
     }
 }
 
-/// Binds the address, and asks for the store each second until no other process has it. Who connects meanwhile is told
-/// so. Then it is served.
-fn stand_by<R: Files<File = File> + AllocGlobal + HostingRuntime>(
-    rt: &R,
-    hosting: &Hosting<'_>,
-) -> u8 {
-    let (listener, address) = match bind(rt, hosting.listen) {
-        Ok(bound) => bound,
-        Err(error) => return not_bound(rt, hosting.listen, &error),
-    };
-    let _ = eprintln!(rt; "hg_pushd: standby on http://{address}/");
-    'asking: for _ in rt.forever() {
-        let Ok(state) = RandomState::new(rt) else {
-            return printed(rt, 3);
-        };
-        match open(rt, state, hosting) {
-            Err(OpeningFault::Store(StoreFault::Held)) => {}
-            Err(fault) => return not_opened(rt, hosting.store, &fault),
-            Ok(recovered) => return serve_opened(rt, hosting, &listener, address, recovered),
-        }
-        if let Err(error) = answer_as_standby(rt, &listener) {
-            return not_bound(rt, hosting.listen, &error);
-        }
-    }
-    unreachable!()
-}
-
 /// A status, which is printed.
-fn printed<R: Eprint>(rt: &R, status: u8) -> u8 {
+pub(crate) fn printed<R: Eprint>(rt: &R, status: u8) -> u8 {
     tell(rt, status);
     status
 }
 
 /// Opens the store that is to be served.
-fn open<R: Files<File = File> + AllocGlobal + Eprint>(
+pub(crate) fn open<R: Files<File = File> + AllocGlobal + Eprint>(
     rt: &R,
     state: RandomState,
     hosting: &Hosting<'_>,
@@ -108,7 +80,7 @@ fn listen<R: Files<File = File> + AllocGlobal + HostingRuntime>(
 }
 
 /// Says where it listens, and serves what was recovered, as [`listen`] does.
-fn serve_opened<R: Files<File = File> + AllocGlobal + HostingRuntime>(
+pub(crate) fn serve_opened<R: Files<File = File> + AllocGlobal + HostingRuntime>(
     rt: &R,
     hosting: &Hosting<'_>,
     listener: &TcpListener,
@@ -181,7 +153,7 @@ fn serve_anew<R: Files<File = File> + AllocGlobal + HostingRuntime>(
     }
 }
 
-fn bind<R: Net<Listener = TcpListener, Stream = TcpStream>>(
+pub(crate) fn bind<R: Net<Listener = TcpListener, Stream = TcpStream>>(
     rt: &R,
     listen: &str,
 ) -> io::Result<(TcpListener, SocketAddr)> {
@@ -197,6 +169,7 @@ fn terms_of<'a>(hosting: &Hosting<'a>) -> HostTerms<'a> {
         capacity: hosting.capacity,
         idle: hosting.idle,
         memory: usize::try_from(hosting.memory).unwrap_or(usize::MAX),
+        text: hosting.text,
         path: hosting.path,
         name: hosting.name,
         user: hosting.user_header,
@@ -244,7 +217,7 @@ fn print_listening<R: Eprint>(
 }
 
 /// The status where the address was not bound, which is printed.
-fn not_bound<R: Eprint>(rt: &R, listen: &str, error: &io::Error) -> u8 {
+pub(crate) fn not_bound<R: Eprint>(rt: &R, listen: &str, error: &io::Error) -> u8 {
     let status = device_status(error);
     if status == 4 {
         tell(rt, status);

@@ -12,6 +12,7 @@
 mod host;
 mod import;
 mod opened;
+mod standby;
 
 use hg_commands::{
     Job, asked_for, cut, device_status, follow, list, log, log_to, one, replay, report, serve,

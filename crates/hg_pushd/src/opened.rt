@@ -29,13 +29,17 @@ pub fn open_store<R: Files<File = File> + AllocGlobal + Eprint>(
         IfMissing::Create
     };
     let recovered = recover_store(rt.alloc(), state, &mut folder, publishing, if_missing);
-    if let Some(kept) = folder.kept() {
-        print_kept(rt, store, kept);
-    }
+    tell_kept(rt, store, folder.kept());
     recovered
 }
 
-/// Prints where the tail of a store is kept.
+/// Prints where the tail of a store is kept, where one is.
+pub fn tell_kept<R: Eprint>(rt: &R, folder: &str, kept: Option<KeptTail>) {
+    if let Some(kept) = kept {
+        print_kept(rt, folder, kept);
+    }
+}
+
 fn print_kept<R: Eprint>(rt: &R, folder: &str, kept: KeptTail) {
     let size = kept.size;
     let place = kept.place;

@@ -22,6 +22,8 @@ pub struct Hosting<'a> {
     pub idle: u64,
     /// How many bytes the bodies of all open pushes hold together at most.
     pub memory: u64,
+    /// How many bytes the text of one changeset has at most.
+    pub text: u32,
     /// The path that is answered.
     pub path: &'a str,
     /// The name that the field `host` of a request has to give, if it has to give one.
@@ -134,6 +136,14 @@ pub const HOST: CommandRow<'static> = CommandRow {
             help: "How much the bodies of all open pushes hold together at most, 1048576 or more",
         },
         OptionRow {
+            name: "text",
+            kind: Kind::Number(ValueParser::Signed(1_024, 16_777_216)),
+            value: "BYTES",
+            is_required: false,
+            default: &["4194304"],
+            help: "How long the text of one changeset may be, 1024 to 16777216",
+        },
+        OptionRow {
             name: "path",
             kind: Kind::Word,
             value: "PATH",
@@ -234,6 +244,7 @@ pub fn read_hosting<'a>(matches: &ArgMatches<'a>) -> Hosting<'a> {
         publishing: matches.get_flag("publishing"),
         idle: matches.get_one("idle").unwrap_or(1),
         memory: matches.get_one("memory").unwrap_or(1),
+        text: number_of(matches, "text"),
         path: word_of(matches, "path"),
         name: matches.get_str("name"),
         also: matches.get_str("also"),

@@ -15,6 +15,7 @@ const DEFAULTS: Hosting<'static> = Hosting {
     publishing: false,
     idle: 300,
     memory: 1_073_741_824,
+    text: 4_194_304,
     path: "/",
     name: None,
     also: None,
@@ -44,6 +45,7 @@ fn is_same(one: &Hosting<'_>, other: &Hosting<'_>) -> bool {
         && one.publishing == other.publishing
         && one.idle == other.idle
         && one.memory == other.memory
+        && one.text == other.text
         && is_same_word(Some(one.path), Some(other.path))
         && is_same_word(one.name, other.name)
         && is_same_word(one.also, other.also)
@@ -185,7 +187,7 @@ fn words_that_ask_for_a_host(rt: HostRuntime) -> Result<(), Fail> {
 #[test]
 fn numbers_of_a_host(rt: HostRuntime) -> Result<(), Fail> {
     let alloc = rt.alloc();
-    let rows: [(&[&str], Hosting<'_>); 9] = [
+    let rows: [(&[&str], Hosting<'_>); 11] = [
         (
             &["--connections", "1"],
             Hosting {
@@ -249,6 +251,20 @@ fn numbers_of_a_host(rt: HostRuntime) -> Result<(), Fail> {
                 ..DEFAULTS
             },
         ),
+        (
+            &["--text", "1024"],
+            Hosting {
+                text: 1024,
+                ..DEFAULTS
+            },
+        ),
+        (
+            &["--text", "16777216"],
+            Hosting {
+                text: 16_777_216,
+                ..DEFAULTS
+            },
+        ),
     ];
     for (more, wanted) in rows {
         assert!(rt; asks_host(alloc, more, &wanted)?);
@@ -260,7 +276,7 @@ fn numbers_of_a_host(rt: HostRuntime) -> Result<(), Fail> {
 /// and texts that are empty or have more than one line.
 #[test]
 fn words_that_host_refuses(rt: HostRuntime) -> Result<(), Fail> {
-    let cases: [&[&str]; 30] = [
+    let cases: [&[&str]; 32] = [
         &["host"],
         &["host", "--store"],
         &["host", "--store", "S", "more"],
@@ -273,6 +289,8 @@ fn words_that_host_refuses(rt: HostRuntime) -> Result<(), Fail> {
         &["host", "--store", "S", "--idle", "86401"],
         &["host", "--store", "S", "--memory", "1048575"],
         &["host", "--store", "S", "--memory", "18446744073709551616"],
+        &["host", "--store", "S", "--text", "1023"],
+        &["host", "--store", "S", "--text", "16777217"],
         &["host", "--store", "S", "--pull"],
         &["host", "--store", "S", "--path", ""],
         &["host", "--store", "S", "--path", "one"],
