@@ -9,9 +9,6 @@ use hg_types::Seq;
 use std::alloc::{Allocator, Global};
 use std::mem;
 
-/// A payload with room for more bytes than these gives back what it has no use for: it may have twice its room.
-const KEPT: usize = 262_144;
-
 /// How many bytes of a chunk are still to come.
 #[derive(Clone, Copy)]
 struct Left {
@@ -189,10 +186,6 @@ impl<A: Allocator + Copy> PayloadIn<A> {
     {
         self.stage = Stage::Handed;
         let alloc = *self.data.allocator();
-        let mut data = mem::replace(&mut self.data, Vec::new(alloc));
-        if data.capacity() > KEPT {
-            data.shrink_to(0);
-        }
-        Seq::from_vec(data)
+        Seq::from_vec(mem::replace(&mut self.data, Vec::new(alloc)))
     }
 }

@@ -6,8 +6,17 @@ ghost use Rattle.hg_stream.specs.Payloads.{reader_at};
 ghost use Rattle.hg_stream.specs.code.Readers.{other, ReadsPayload, HasTakenNothing};
 
 use hg_chunks::{ChunkFault, PayloadIn, Step};
+use hg_types::Seq;
 use std::alloc::{Allocator, Global};
 use std::mem;
+
+/// A payload with room for more bytes than these gives back what it has no use for.
+const LARGE: usize = 16_777_216;
+
+/// So does one with room for more than these, where so many parts wait before it.
+const SMALL: usize = 8_192;
+
+const FEW: usize = 4;
 
 /// Whose header or payload is read.
 #[derive(Clone, Copy)]
@@ -60,4 +69,17 @@ impl<A: Allocator + Copy> Payloads<A> {
             Level::Interrupting => mem::replace(&mut self.interrupting, next),
         }
     }
+}
+
+/// A payload that waits behind so many parts, without room that adds up. A payload is read into memory that doubles, so
+/// it has up to twice its bytes. Those of a few parts keep that: the memory of the next bundle is then the same.
+pub fn without_room<A: Allocator>(payload: Seq<u8, A>, waiting: usize) -> Seq<u8, A>
+    ensures { result ≡ payload }
+{
+    let mut bytes = payload.into_vec();
+    let most = if waiting < FEW { LARGE } else { SMALL };
+    if bytes.capacity() > most {
+        bytes.shrink_to(0);
+    }
+    Seq::from_vec(bytes)
 }

@@ -14,7 +14,7 @@ ghost use Rattle.hg_stream.specs.declared.state.State.TheVariants.{Reading, Ende
 use crate::block::{BlockIn, BlockStep};
 use crate::fault::StreamFault;
 use crate::head::{MAX_HEADER, header_room, make_part, no_head, read_head_at, read_params};
-use crate::payloads::{Level, Payloads};
+use crate::payloads::{Level, Payloads, without_room};
 use crate::state::State;
 use crate::told::{block_fault, chunk_fault};
 use hg_chunks::{SizeField, Step};
@@ -433,7 +433,10 @@ impl<A: Allocator + Copy> Unbundler<A> {
         ensures stream_left { self.new.stream_left ≡ self.old.stream_left }
     {
         match level {
-            Level::Part => self.finish_part(payload),
+            Level::Part => {
+                let waiting = self.ready_len();
+                self.finish_part(without_room(payload, waiting))
+            }
             Level::Interrupting => {
                 self.stage = Stage::Payload(Level::Part);
                 Ok(())
