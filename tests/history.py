@@ -74,10 +74,11 @@ def bundles_in(data):
 
 
 def bookmarks_of(bundle):
-    """The bookmarks that a push asks to set, and what each is to be on; nothing where it is to be taken away."""
+    """The bookmarks that a push asks to set, and what each is to be on; nothing where it is to be taken away. A hostile
+    push may ask for bytes of any form."""
     for kind, params, payload in parts_of(bundle):
         if kind == b"pushkey" and params[b"namespace"] == b"bookmarks":
-            yield params[b"key"].decode(), params[b"new"].decode()
+            yield params[b"key"].decode(errors="replace"), params[b"new"].decode(errors="replace")
         elif kind == b"bookmarks":
             yield from bookmarks_in(payload)
 
