@@ -222,26 +222,32 @@ predecessor_stays markers n node within is =
     let low : is.0 < n = omega (arith, length-take-le n markers within, is.2) in
     (is.0, is.1, omega (arith, low, within), sym (get_or-take n markers is.0 is.1 low) ∙ is.3, is.4)
 
--- the first rows are obsolete by the first markers, and by the phases that were, as they are by all
-pub obsolete_taken : {A : Type 0} (rows : List Changeset) (markers : List (Marker A)) (phases was : List Phase)
+-- a row that was obsolete by the first markers, and by the phases that were, is obsolete by all, unless it is public
+obsolete_on : {A : Type 0} (rows : List Changeset) (markers : List (Marker A)) (phases was : List Phase)
     (first known r : ℕ) → known ≤ length markers → r < first
-    → (IsObsolete rows markers phases r → IsMarked rows (take known markers) r)
-    → (is_public (phase_at was r) ≡ true → is_public (phase_at phases r) ≡ true)
-    → (IsObsolete (take first rows) (take known markers) was r → is_public (phase_at phases r) ≡ true → ⊥)
-    → IsObsolete (take first rows) (take known markers) was r ↔ IsObsolete rows markers phases r
-obsolete_taken {A} rows markers phases was first known r known_within low marked stay hidden =
+    → (is_public (phase_at phases r) ≡ true → ⊥)
+    → IsObsolete (take first rows) (take known markers) was r → IsObsolete rows markers phases r
+obsolete_on rows markers phases was first known r known_within low hidden is =
     let same : id_at (take first rows) r ≡ id_at rows r = ap id_of (slice_get_taken rows first r low) in
-    let id = λ (id : List ℕ). let made : Node = record { 0 = id } in made in (
-      λ is. record {
-        marked = predecessor_stays markers known _ known_within
-            (subst (λ i. IsPredecessor (take known markers) (id i)) same is.marked);
-        not_public = false_from_ne_true _ (hidden is);
-      },
-      λ is. record {
-        marked = subst (λ i. IsPredecessor (take known markers) (id i)) (sym same) (marked is);
-        not_public = false_from_ne_true _ (λ public. both_ways _ is.not_public (stay public));
-      },
-    )
+    let id = λ (id : List ℕ). let made : Node = record { 0 = id } in made in
+    record {
+      marked = predecessor_stays markers known _ known_within
+          (subst (λ i. IsPredecessor (take known markers) (id i)) same is.marked);
+      not_public = false_from_ne_true _ hidden;
+    }
+
+-- one that is obsolete by all was, where the first markers say so
+obsolete_back : {A : Type 0} (rows : List Changeset) (markers : List (Marker A)) (phases was : List Phase)
+    (first known r : ℕ) → r < first → IsMarked rows (take known markers) r
+    → (is_public (phase_at was r) ≡ true → is_public (phase_at phases r) ≡ true)
+    → IsObsolete rows markers phases r → IsObsolete (take first rows) (take known markers) was r
+obsolete_back rows markers phases was first known r low marked stay is =
+    let same : id_at (take first rows) r ≡ id_at rows r = ap id_of (slice_get_taken rows first r low) in
+    let id = λ (id : List ℕ). let made : Node = record { 0 = id } in made in
+    record {
+      marked = subst (λ i. IsPredecessor (take known markers) (id i)) (sym same) marked;
+      not_public = false_from_ne_true _ (λ public. both_ways _ is.not_public (stay public));
+    }
 
 -- those of the first rows that are public are
 pub shown_public : (first : ℕ) (phases : List Phase) (seen : List ℕ)
@@ -263,21 +269,38 @@ listed_taken view came before r low is =
     before.listed r low (subst (λ rows. IsObsolete rows view.markers view.phases r) (sym before.rows)
     (subst (λ markers. IsObsolete (take came.first came.rows) markers view.phases r) (sym before.markers) is))
 
--- the rows of a view are obsolete as they were, where none became obsolete, and none public
-pub obsolete_same : {A : Type 0} (view : Viewed A) (came : Since A) → IsBefore view came
-    → came.known ≤ length came.markers
-    → ((r : ℕ) → r < came.first → IsObsolete came.rows came.markers came.phases r
-    → IsMarked came.rows (take came.known came.markers) r) → came.public ≡ [] → (r : ℕ) → r < came.first
-    → IsObsolete view.rows view.markers view.phases r ↔ IsObsolete came.rows came.markers came.phases r
-obsolete_same view came before within marked none r low =
-    let now = IsObsolete came.rows came.markers came.phases r in
-    subst (λ rows. IsObsolete rows view.markers view.phases r ↔ now) (sym before.rows)
-    (subst (λ markers. IsObsolete (take came.first came.rows) markers view.phases r ↔ now) (sym before.markers)
-    (obsolete_taken came.rows came.markers came.phases view.phases came.first came.known r within low (marked r low)
-    (before.stay r low)
-    (λ is public.
-    let has = subst (λ (revs : List ℕ). Contains revs r) none (listed_taken view came before r low is public)
-    in omega (arith, has.1))))
+-- what is obsolete by the first rows and markers is by a view of them
+viewed_is : {A : Type 0} (view : Viewed A) (came : Since A) → IsBefore view came → (r : ℕ)
+    → IsObsolete (take came.first came.rows) (take came.known came.markers) view.phases r
+    ↔ IsObsolete view.rows view.markers view.phases r
+viewed_is {A} view came before r =
+    let Is = λ (rows : List Changeset) (markers : List (Marker A)). IsObsolete rows markers view.phases r in (
+      λ is. subst (λ rows. Is rows view.markers) (sym before.rows)
+          (subst (λ markers. Is (take came.first came.rows) markers) (sym before.markers) is),
+      λ is. subst (λ markers. Is (take came.first came.rows) markers) before.markers
+          (subst (λ rows. Is rows view.markers) before.rows is),
+    )
+
+-- where none that was obsolete is public now, all that were obsolete are
+pub obsolete_grows : {A : Type 0} (view : Viewed A) (came : Since A) → IsBefore view came
+    → came.known ≤ length came.markers → came.public ≡ [] → (r : ℕ) → r < came.first
+    → IsObsolete view.rows view.markers view.phases r → IsObsolete came.rows came.markers came.phases r
+obsolete_grows view came before within none r low is =
+    obsolete_on came.rows came.markers came.phases view.phases came.first came.known r within low
+    (λ public. let has = subst (λ (revs : List ℕ). Contains revs r) none (before.listed r low is public) in
+    omega (arith, has.1)) ((viewed_is view came before r).1 is)
+
+-- what is obsolete was, or a marker that came made it so
+pub obsolete_gone : {A : Type 0} (view : Viewed A) (came : Since A) (gone : List ℕ) → IsBefore view came
+    → AreListed came.rows came.markers came.phases came.first came.known gone → (r : ℕ) → r < came.first
+    → IsObsolete came.rows came.markers came.phases r
+    → IsObsolete view.rows view.markers view.phases r ⊎ Contains gone r
+obsolete_gone view came gone before listed r low is = elim (listed.each r low is) [
+  | inl marked ↦ inl ((viewed_is view came before r).0
+      (obsolete_back came.rows came.markers came.phases view.phases came.first came.known r low marked
+      (before.stay r low) is))
+  | inr has ↦ inr has
+]
 
 -- whether a changeset is kept is said once more markers came, and changesets became public
 kept_on : {A : Type 0} (rows : List Changeset) (markers : List (Marker A)) (phases was : List Phase)

@@ -23,7 +23,7 @@ use Rattle.hg_wireproto.proofs.Hiding.{pushed_before, pushed_here}
 -- ---- one row more
 
 -- what leads to a row is the row, or leads to a parent of it
-back : (rows : List Changeset) (a r : ℕ) → Leads (parents_of rows) a r
+pub back : (rows : List Changeset) (a r : ℕ) → Leads (parents_of rows) a r
     → (a ≡ r) ⊎ ((p : ℕ) × IsParentIn (parents_of rows) p r × Leads (parents_of rows) a p)
 back rows a r itself = inl refl
 back rows a r (of_parent p q is more) = inr (p, is, more)
@@ -204,29 +204,36 @@ module _ {A : Type 0} (rows : List Changeset) (markers : List (Marker A)) (phase
 
 -- ---- the first rows among all
 
--- a head is one by other rows, markers and phases that say the same of the first n
-head_by : {A : Type 0} (rows others : List Changeset) (markers marks : List (Marker A)) (phases was : List Phase)
-    (n : ℕ)
+-- all of the first n rows that descend from that one are said to be obsolete
+abbrev pub HiddenBy : (ℕ → Type 0) → List Changeset → ℕ → ℕ → Type 0
+HiddenBy obsolete rows n r = (d : ℕ) → d < n → Leads (parents_of rows) r d → obsolete d
+
+-- the row is a head of its branch, where it is said of each row whether it is obsolete
+pub record HeadBy (obsolete : ℕ → Type 0) (rows : List Changeset) (n r : ℕ) : Type 0 where
+  pub shown : ¬ (HiddenBy obsolete rows n r)
+  pub last : (d : ℕ) → d < n → branch_at rows d ≡ branch_at rows r → ¬ (HiddenBy obsolete rows n d)
+      → Leads (parents_of rows) r d → d ≡ r
+
+-- a head is one by other rows that have the same parents and branches
+head_by : (obsolete : ℕ → Type 0) (rows others : List Changeset) (n : ℕ)
     → ((a d : ℕ) → d < n → Leads (parents_of rows) a d ↔ Leads (parents_of others) a d)
-    → ((d : ℕ) → d < n → IsObsolete rows markers phases d ↔ IsObsolete others marks was d)
     → ((d : ℕ) → d < n → branch_at rows d ≡ branch_at others d)
-    → (r : ℕ) → r < n → IsHeadTo rows markers phases n r → IsHeadTo others marks was n r
-head_by rows others markers marks phases was n leads obsolete named r low head = record {
-  shown = λ hid. head.shown (λ d under to. (obsolete d under).1 (hid d under ((leads r d under).0 to)));
+    → (r : ℕ) → r < n → HeadBy obsolete rows n r → HeadBy obsolete others n r
+head_by obsolete rows others n leads named r low head = record {
+  shown = λ hid. head.shown (λ d under to. hid d under ((leads r d under).0 to));
   last = λ d under same shown to.
       head.last d under (named d under ∙ same ∙ sym (named r low))
-      (λ hid. shown (λ e below on. (obsolete e below).0 (hid e below ((leads d e below).1 on))))
-      ((leads r d under).1 to);
+      (λ hid. shown (λ e below on. hid e below ((leads d e below).1 on))) ((leads r d under).1 to);
 }
 
--- what is said of a view, where the same rows of it are obsolete
-pub covered_on : {A : Type 0} (rows few : List Changeset) (markers known : List (Marker A)) (phases was : List Phase)
+-- what is said of a view of the first rows, by all rows
+pub covered_was : {A : Type 0} (rows few : List Changeset) (known : List (Marker A)) (was : List Phase)
     (n : ℕ) (covered : List Bool) → AreLawful rows → AreLawful few → n ≤ length rows → few ≡ take n rows
-    → ((r : ℕ) → r < n → IsObsolete few known was r ↔ IsObsolete rows markers phases r)
-    → AreCovered few known was covered → AreCoveredTo rows markers phases (length covered) covered
-covered_on {A} rows few markers known phases was n covered lawful lawful_few within few_is obsolete told =
+    → AreCovered few known was covered
+    → (length covered ≡ n) × ((r : ℕ) → r < n
+    → (get_or covered r false ≡ false) ↔ HeadBy (IsObsolete few known was) rows n r)
+covered_was {A} rows few known was n covered lawful lawful_few within few_is told =
     let long : length few ≡ n = ap length few_is ∙ length-take-le n rows within in
-    let size : length covered ≡ n = told.as_long ∙ long in
     let parents : (r : ℕ) → r < n → parents_of few r ≡ parents_of rows r =
     λ r low. ap (λ rs. parents_of rs r) few_is ∙ parents_kept rows n r within lawful low in
     let leads : (a d : ℕ) → d < n → Leads (parents_of few) a d ↔ Leads (parents_of rows) a d =
@@ -237,17 +244,15 @@ covered_on {A} rows few markers known phases was n covered lawful lawful_few wit
     let named : (d : ℕ) → d < n → branch_at few d ≡ branch_at rows d =
     λ d low. ap (λ rs. branch_at rs d) few_is ∙ ap (λ o. branch_of (text_of o)) (slice_get_taken rows n d low) in
     let first =
-    subst (λ m. AreCoveredTo few known was m covered) long (whole_covered few known was lawful_few covered told) in
-    record {
-      as_long = refl;
-      each = λ r under.
-          let low : r < n = omega (arith, under, size) in
-          let there = head_by few rows known markers was phases n leads obsolete named r low in
-          let again = head_by rows few markers known phases was n
-          (λ a d below. ((leads a d below).1, (leads a d below).0))
-          (λ d below. ((obsolete d below).1, (obsolete d below).0)) (λ d below. sym (named d below)) r low in
-          subst (λ m. (get_or covered r false ≡ false) ↔ IsHeadTo rows markers phases m r) (sym size) (
-            λ is. there ((first.each r low).0 is),
-            λ head. (first.each r low).1 (again head),
-          );
-    }
+    subst (λ m. AreCoveredTo few known was m covered) long (whole_covered few known was lawful_few covered told) in (
+      told.as_long ∙ long,
+      λ r low. (
+        λ is. let head = (first.each r low).0 is in
+            head_by (IsObsolete few known was) few rows n leads named r low
+            (record { shown = head.shown; last = head.last }),
+        λ head.
+            let back = head_by (IsObsolete few known was) rows few n
+            (λ a d under. ((leads a d under).1, (leads a d under).0)) (λ d under. sym (named d under)) r low head in
+            (first.each r low).1 (record { shown = back.shown; last = back.last }),
+      ),
+    )

@@ -21,6 +21,8 @@ mod Coming
 mod Covering
 mod Doubts
 mod Uncovering
+mod Settling
+mod Standings
 mod HeadIds
 mod OrderedIds
 pub mod Publishing

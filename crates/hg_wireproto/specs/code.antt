@@ -8,3 +8,5 @@ pub mod HeadIds
 pub mod Ids
 pub mod Kept
 pub mod Spellings
+pub mod Settled
+pub mod Standing

@@ -33,7 +33,9 @@ mod listkeys;
 mod lookup;
 mod once;
 mod plain;
+mod settled;
 mod since;
+mod standing;
 mod text;
 mod viewed;
 

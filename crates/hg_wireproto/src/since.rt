@@ -1,11 +1,11 @@
 //! What came to changesets, markers and phases since a view was made of them.
 
-ghost use Rattle.std.specs.Prelude.{◌≡◌, ◌<◌, ◌≤◌, ◌^◌, ◌-◌, ℕ, [], false, Some, length, min, take, IfOk, IfSome};
+ghost use Rattle.std.specs.Prelude.{◌≡◌, ◌<◌, ◌≤◌, ◌^◌, ◌-◌, ℕ, [], false, Some, length, min, IfOk, IfSome};
 ghost use Rattle.std.specs.Prelude.{IsTrue, OnOk};
 ghost use Rattle.hg_log.specs.HeadCount.{id_at};
 ghost use Rattle.hg_log.specs.Rows.{AreLawful};
 ghost use Rattle.hg_phases.specs.Order.{phase_at};
-ghost use Rattle.hg_wireproto.specs.Hidden.{is_public as told_public, IsMarked, IsObsolete};
+ghost use Rattle.hg_wireproto.specs.Hidden.{is_public as told_public};
 ghost use Rattle.hg_wireproto.specs.Viewed.{is_shown as told_shown, shown_of};
 ghost use Rattle.hg_wireproto.specs.code.Viewed.{AreEntriesFrom, AreKeptFrom, AreListed, AreNamesFrom};
 
@@ -122,17 +122,21 @@ impl<A: Allocator + Copy> Since<A> {
 }
 
 impl<A: Allocator> Since<A> {
-    /// Whether no changeset that was there before became obsolete by a marker that came, and none that was obsolete
-    /// became public.
-    pub(crate) fn leaves_kept(&self) -> bool
+    /// Whether none that was obsolete became public.
+    pub(crate) fn shows_none(&self) -> bool
+        ensures { IsTrue result → self.now.public ≡ [] }
+    {
+        self.public.as_slice().is_empty()
+    }
+
+    /// The changesets that were there before, and that a marker which came makes obsolete.
+    pub(crate) fn gone(&self) -> &[u32]
         ensures first { self.now.first ≤ length self.now.rows }
         ensures known { self.now.known ≤ length self.now.markers }
-        ensures kept { IsTrue result → (r : ℕ) → r < self.now.first
-            → IsObsolete self.now.rows self.now.markers self.now.phases r
-            → IsMarked self.now.rows (take self.now.known self.now.markers) r }
-        ensures hidden { IsTrue result → self.now.public ≡ [] }
+        ensures listed { AreListed self.now.rows self.now.markers self.now.phases self.now.first self.now.known
+            result.now }
     {
-        self.obsolete.as_slice().is_empty() && self.public.as_slice().is_empty()
+        self.obsolete.as_slice()
     }
 }
 

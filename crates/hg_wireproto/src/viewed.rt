@@ -1,16 +1,18 @@
 //! What is kept of a repository's changesets, markers and phases, to answer from when it is out of reach.
 
-ghost use Rattle.std.specs.Prelude.{◌≡◌, ◌≤◌, [], length, IfOk};
+ghost use Rattle.std.specs.Prelude.{◌≡◌, ◌<◌, ◌≤◌, [], All, Bool, List, length, IfOk};
 ghost use Rattle.hg_wireproto.specs.Viewed.{AreSeen, IsBefore};
 ghost use Rattle.hg_wireproto.specs.code.Covered.{AreCovered, AreCoveredTo};
 ghost use Rattle.hg_wireproto.specs.code.HeadIds.{AreHeadIds};
 ghost use Rattle.hg_wireproto.specs.code.Ids.{AreIds};
+ghost use Rattle.hg_wireproto.specs.code.Settled.{AreSettled};
 
 use crate::copied::Copied;
 use crate::covered::covered_changesets;
 use crate::head_ids::bring_up;
 use crate::ids::add_ids;
 use crate::plain::cover_came;
+use crate::settled::{heads_among, settle};
 use crate::since::{Seen, Since};
 use hg_log::Changelog;
 use hg_obs::Markers;
@@ -95,12 +97,19 @@ impl<A: Allocator> BranchView<A> {
 
     /// The view with what came to its changesets and markers. Where memory is refused, it is gone.
     ///
-    /// It costs by what came, and not by what it was made of, where no changeset that was there became obsolete, none
-    /// that was obsolete became public, and each that came is plain: neither it nor a parent of it is obsolete, and
-    /// its parents are of its branch. A changeset with a parent of another branch is plain too, where all heads of
-    /// its own branch are parents of it; to see that is a pass over the changesets, which is made for eight of those
-    /// that came at most. Where one is not plain, the heads of all branches are found anew, once: it is five passes over
-    /// the changesets, and one for each 64 branches that are in doubt.
+    /// It costs by what came, and not by what it was made of, where none that was obsolete became public, and each
+    /// changeset that came is plain: neither it nor a parent of it is obsolete, and its parents are of its branch. A
+    /// changeset with a parent of another branch is plain too, where all heads of its own branch are parents of it; to
+    /// see that is a pass over the changesets, which is made for eight of those that came at most.
+    ///
+    /// A changeset that a marker makes obsolete changes nothing where it was no head of its branch. Where it was one,
+    /// the changesets behind it say whether it is hidden now, and where it is, those behind its parents say whether
+    /// these are heads, or hidden too, and so on. Behind each they are looked at up to the first that says that it is
+    /// no head, and in all no more than twice as many as there are.
+    ///
+    /// Where a changeset that came is not plain, where a hidden one has a parent of another branch, and where more
+    /// might be looked at, the heads of all branches are found anew, once: it is five passes over the changesets, and
+    /// one for each 64 branches that are in doubt.
     pub fn with(self, came: Since<A>) -> Result<BranchView<A>, NoMemory>
     where
         A: Copy,
@@ -118,12 +127,14 @@ impl<A: Allocator> BranchView<A> {
             mut ids,
         } = self;
         let first = copied.len();
+        copied.kept();
         let alloc = *covered.allocator();
-        let stays = came.leaves_kept();
+        let shows_none = came.shows_none();
+        let heads_gone = heads_among(alloc, covered.as_slice(), came.gone())?;
         let copied = copied.with(came)?;
         copied.len();
-        let covered = if stays {
-            covered_with(alloc, covered, &copied)?
+        let covered = if shows_none {
+            covered_with(alloc, covered, &copied, heads_gone)?
         } else {
             covered_changesets(alloc, &copied)?
         };
@@ -166,19 +177,22 @@ impl<A: Allocator> BranchView<A> {
     }
 }
 
-/// What is said of the first changesets, brought up to all.
+/// What is said of the first changesets, brought up to those of their heads that became obsolete, and to all that came.
 fn covered_with<A: Allocator + Copy>(
     alloc: A,
     covered: Vec<bool, A>,
     copied: &Copied<A>,
+    gone: Vec<u32, A>,
 ) -> Result<Vec<bool, A>, NoMemory>
     requires within { length covered.items ≤ length copied.now.rows }
-    requires told { AreCoveredTo copied.now.rows copied.now.markers copied.now.phases (length covered.items)
-        covered.items }
+    requires gone { All (λ r. r < length covered.items) gone.items }
+    requires told { (settled : List Bool) → AreSettled copied.now.rows copied.now.markers copied.now.phases
+        (length covered.items) gone.items covered.items settled
+        → AreCoveredTo copied.now.rows copied.now.markers copied.now.phases (length covered.items) settled }
     ensures { IfOk result (λ all. AreCovered copied.now.rows copied.now.markers copied.now.phases all.items) }
 {
     let mut covered = covered;
-    if cover_came(&mut covered, copied)? {
+    if settle(alloc, &mut covered, copied, gone)? && cover_came(&mut covered, copied)? {
         return Ok(covered);
     }
     covered_changesets(alloc, copied)

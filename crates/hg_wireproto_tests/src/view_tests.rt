@@ -36,8 +36,13 @@ impl Dice {
 #[derive(Clone, Copy)]
 struct Made {
     node: Node,
+    /// Its parents.
+    p1: Node,
+    p2: Node,
     /// Its branch, by the place of its name.
     branch: usize,
+    /// Its proper ancestors, each a bit.
+    above: u64,
     /// Itself and its ancestors, each a bit.
     ancestors: u64,
     /// Whether a marker has it as its predecessor.
@@ -291,15 +296,29 @@ impl History {
     fn grow(&mut self, alloc: Global) -> Result<(), Fail> {
         let (p1, p2) = self.parents();
         let branch = self.branch(p1);
+        let above = ancestors_of(p1) | ancestors_of(p2);
+        self.add(alloc, node_of(p1), node_of(p2), above, branch)
+    }
+
+    /// A changeset with those parents, on that branch. Its proper ancestors are given.
+    fn add(
+        &mut self,
+        alloc: Global,
+        p1: Node,
+        p2: Node,
+        above: u64,
+        branch: usize,
+    ) -> Result<(), Fail> {
         let place = self.all.len();
         let text = text_of(alloc, branch, place)?;
-        let (n1, n2) = (node_of(p1), node_of(p2));
-        let (node, is_marked) = self.put(alloc, n1, n2, text.as_str().as_bytes())?;
+        let (node, is_marked) = self.put(alloc, p1, p2, text.as_str().as_bytes())?;
         let bit = u32::try_from(place).unwrap_or(u32::MAX);
-        let above = ancestors_of(p1) | ancestors_of(p2);
         self.all.push(Made {
             node,
+            p1,
+            p2,
             branch,
+            above,
             ancestors: above | 1u64.unbounded_shl(bit),
             is_marked,
             is_public: false,
@@ -309,12 +328,53 @@ impl History {
 
     /// Gives one that is there a marker.
     fn forget(&mut self, alloc: Global) -> Result<(), Fail> {
-        if let Some(chosen) = self.any() {
-            self.watched.prune(alloc, chosen.node)?;
-            for made in self.all.as_mut_slice() {
-                if made.node == chosen.node {
-                    made.is_marked = true;
-                }
+        match self.any() {
+            Some(chosen) => self.mark(alloc, chosen),
+            None => Ok(()),
+        }
+    }
+
+    /// Gives that one a marker.
+    fn mark(&mut self, alloc: Global, chosen: Made) -> Result<(), Fail> {
+        self.watched.prune(alloc, chosen.node)?;
+        for made in self.all.as_mut_slice() {
+            if made.node == chosen.node {
+                made.is_marked = true;
+            }
+        }
+        Ok(())
+    }
+
+    /// Amends one that is there: a changeset comes in its place, and it gets a marker.
+    fn amend(&mut self, alloc: Global) -> Result<(), Fail> {
+        match self.any() {
+            Some(chosen) => {
+                self.add(alloc, chosen.p1, chosen.p2, chosen.above, chosen.branch)?;
+                self.mark(alloc, chosen)
+            }
+            None => Ok(()),
+        }
+    }
+
+    /// Amends the last ones, so many or all, and gives each a marker: the first of them in its place, and then each on
+    /// the one before.
+    fn rebase(&mut self, alloc: Global, count: usize) -> Result<(), Fail> {
+        let first = self.all.len().saturating_sub(count);
+        let last = self.all.len();
+        for place in first..last {
+            let own = self.all.get(place).copied();
+            let before = self.all.last().copied();
+            if let Some(own) = own {
+                let (p1, above) = match before {
+                    Some(before) if place > first => (before.node, before.ancestors),
+                    _ => (own.p1, own.above),
+                };
+                self.add(alloc, p1, Node::NULL, above, own.branch)?;
+            }
+        }
+        for place in first..last {
+            if let Some(own) = self.all.get(place).copied() {
+                self.mark(alloc, own)?;
             }
         }
         Ok(())
@@ -362,6 +422,53 @@ fn is_history_told(alloc: Global, state: RandomState, seed: u64) -> Result<bool,
     }
     let last = is_brought_up(alloc, &mut history)?;
     Ok(told && last && is_whole(alloc, &history)?)
+}
+
+// 100 histories of up to 40 changesets on four branches (`amends_in_random_histories`). In each step one or two come,
+// or one is amended, or the last two or three are rebased, or up to three get a marker; a few become public. A view is
+// brought up after each step. Result: its branch map and its heads are those of the definition.
+#[test]
+fn amends_in_random_histories(rt: HostRuntime) -> Result<(), Fail> {
+    let alloc = rt.alloc();
+    let state = RandomState::new(&rt)?;
+    for seed in 0..100u64 {
+        let told = is_amended_told(alloc, state, seed)?;
+        assert!(rt; told);
+    }
+    Ok(())
+}
+
+/// Whether a history of amends is told after each step.
+fn is_amended_told(alloc: Global, state: RandomState, seed: u64) -> Result<bool, Fail> {
+    let mut history = History::new(alloc, state, seed);
+    let mut told = true;
+    for _step in 0..30 {
+        if history.all.len() < 40 {
+            go_amending(alloc, &mut history, seed)?;
+            told = is_brought_up(alloc, &mut history)? && told;
+        }
+    }
+    Ok(told && is_whole(alloc, &history)?)
+}
+
+/// One step of a history of amends.
+fn go_amending(alloc: Global, history: &mut History, seed: u64) -> Result<(), Fail> {
+    match history.dice.below(10) {
+        0 | 1 => history.amend(alloc),
+        2 => history.rebase(alloc, 2 + (seed % 2) as usize),
+        3 => history.forget(alloc),
+        4 => {
+            history.forget(alloc)?;
+            history.forget(alloc)?;
+            history.forget(alloc)
+        }
+        5 if seed % 5 == 0 => history.publish(alloc),
+        6 => {
+            history.grow(alloc)?;
+            history.grow(alloc)
+        }
+        _ => history.grow(alloc),
+    }
 }
 
 #[test]
