@@ -2,11 +2,13 @@
 
 A changeset comes as a delta on another. One that copies all of its base has a hundred bytes, whatever its text has. So
 the texts of a push are measured before it runs: what is too long, or copies too much, is refused by a line, before
-anything is put. It ends by itself, within a minute.
+anything is put. So is what may copy much once another push has brought its bases. It ends by itself, within a minute.
 """
+import http.server
 import resource
 import sys
 import tempfile
+import threading
 import time
 
 from bundles import CAPS, NULL, bundle, group, node_of, number
@@ -15,6 +17,7 @@ from host import Host, Wrong, want
 MIB = 1 << 20
 LONG = (200, "application/hg-error", b"the text of a changeset is longer than --text allows\n")
 MUCH = (200, "application/hg-error", b"the deltas of the changesets copy too much from their bases\n")
+UNKNOWN = (200, "application/hg-error", b"the deltas of more than four changesets are on bases that are not known\n")
 CASES = []
 
 
@@ -204,6 +207,97 @@ def what_the_run_refuses_is_left_to_it(host):
     want("a bundle without its end", b"stream fault" in answered[2], True)
     want("nothing is here", rows(host), 0)
     want("it goes on", is_done(host.push(bundle(CAPS, group((text, NULL))))), True)
+
+
+class Hook(http.server.BaseHTTPRequestHandler):
+    """A hook that lets each push run; one on which changesets are told to wait once the other has come."""
+
+    protocol_version = "HTTP/1.1"
+
+    def log_message(self, *_words):
+        pass
+
+    def do_POST(self):
+        body = self.rfile.read(int(self.headers["content-length"]))
+        if body in self.server.waiting:
+            self.server.asked.set()
+            self.server.goes_on.wait(30)
+        self.send_response(200)
+        self.send_header("content-length", "0")
+        self.end_headers()
+
+
+class Hooked:
+    """A server with a hook, which has some pushes wait between being weighed and their run."""
+
+    def __init__(self, host):
+        self.hook = http.server.ThreadingHTTPServer(("127.0.0.1", 0), Hook)
+        self.hook.waiting, self.hook.asked, self.hook.goes_on = [], threading.Event(), threading.Event()
+        self.host = host
+
+    def __enter__(self):
+        threading.Thread(target=self.hook.serve_forever, kwargs={"poll_interval": 0.05}, daemon=True).start()
+        self.host.start("--hook", f"http://127.0.0.1:{self.hook.server_address[1]}/")
+        return self
+
+    def __exit__(self, *_):
+        self.hook.goes_on.set()
+        self.hook.shutdown()
+        self.hook.server_close()
+
+    def pushed_between(self, late, early):
+        """The answer to a push that was weighed before another one came, and runs behind it."""
+        told = []
+        self.hook.waiting.append(late)
+        pushing = threading.Thread(target=lambda: told.append(self.host.push(late)))
+        pushing.start()
+        want("it was weighed", self.hook.asked.wait(20), True)
+        want("the other one is done", is_done(self.host.push(early)), True)
+        self.hook.goes_on.set()
+        pushing.join()
+        return told[0]
+
+
+@case
+def bases_that_come_later(host):
+    """A push on a base that nobody knows is refused by its line; once the base has come, it is taken."""
+    host.start()
+    text = b"text"
+    base = node_of(text)
+    sent = copies(base, text, 5, base)
+    refused(host, sent.bundle(), UNKNOWN)
+    four = host.push(copies(base, text, 4, base).bundle())
+    want("four are left to the run", (four[1], b"ERROR:ABORT" in four[2]), ("application/mercurial-0.1", True))
+    want("the base is done", is_done(host.push(bundle(CAPS, group((text, NULL))))), True)
+    want("five on it are done", is_done(host.push(sent.bundle())), True)
+    want("how many are here", rows(host), 6)
+
+
+@case
+def bases_that_come_between(host):
+    """Where another push brings the base before the run, no more than four changesets copy it that were not weighed."""
+    text = bytes(MIB)
+    base = node_of(text)
+    with Hooked(host) as server:
+        four = copies(base, text, 4, base).bundle()
+        want("four are done", is_done(server.pushed_between(four, bundle(CAPS, group((text, NULL))))), True)
+        want("how many are here", rows(host), 5)
+        other = text + b"other"
+        base = node_of(other)
+        refused(host, copies(base, other, 5, base).bundle(), UNKNOWN)
+
+
+@case
+def an_id_whose_text_is_another(host):
+    """A push gives an id a short text, and its run would not look at that where another push had brought that id."""
+    host.start()
+    text = bytes(4 * MIB)
+    base, push = node_of(text), Push()
+    push.add(base, NULL, b"")
+    push.chunks += copies(base, text, 60, base).chunks
+    refused(host, push.bundle(), UNKNOWN)
+    want("the base is done", is_done(host.push(bundle(CAPS, group((text, NULL))))), True)
+    refused(host, push.bundle(), MUCH)
 
 
 @case

@@ -4,3 +4,4 @@ mod Weighed
 mod Reading
 mod Noting
 mod Bundles
+mod Known

@@ -1,4 +1,5 @@
 pub mod Measures
 pub mod Weights
+pub mod Bases
 pub mod Changesets
 pub mod code

@@ -20,8 +20,8 @@ abbrev pub empty_load : ℕ → Load
 empty_load room = record { sizes = λ node. None; room = room }
 
 -- the first of two that is there
-abbrev pub first_of : Option ℕ → Option ℕ → Option ℕ
-first_of (Some n) other = Some n
+abbrev pub first_of : {X : Type 0} → Option X → Option X → Option X
+first_of (Some x) other = Some x
 first_of None other = other
 
 -- The length of the text of a base: none of the null id, that of the changeset which is here, or else that of the first
@@ -29,9 +29,9 @@ first_of None other = other
 abbrev pub base_size : (Node → Option ℕ) → Node → Option ℕ → Option ℕ
 base_size sizes base here = if bytes_eq base.0 null_id then Some 0 else first_of here (sizes base)
 
--- with the length of one more text; of several of one id the first counts
-abbrev pub noted : (Node → Option ℕ) → Node → ℕ → Node → Option ℕ
-noted sizes node size q = first_of (sizes q) (if bytes_eq node.0 q.0 then Some size else None)
+-- with what is noted of one more changeset; of several of one id the first counts
+abbrev pub noted : {X : Type 0} → (Node → Option X) → Node → X → Node → Option X
+noted others node x q = first_of (others q) (if bytes_eq node.0 q.0 then Some x else None)
 
 -- what is weighed with a text of that measure, or why that is too much
 abbrev pub with_text : ℕ → Load → Node → Result Measure DeltaFault → Result Load Excess

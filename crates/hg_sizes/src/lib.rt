@@ -7,10 +7,12 @@
 //! for many are found before anything is made of them.
 #![tactic(auto)]
 
+mod bases;
 mod bundle;
 mod delta;
 mod weighing;
 
+pub use bases::weigh_bases;
 pub use bundle::changesets_of;
 pub use delta::{Measure, measure_delta, texts_are_as_long_as_measured};
 pub use weighing::{Excess, weigh};

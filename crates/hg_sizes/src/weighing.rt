@@ -17,6 +17,8 @@ pub enum Excess {
     LongText,
     /// 2: the deltas copy too many bytes from their bases, all together.
     MuchCopied,
+    /// 3: more than four deltas are on bases that are not known.
+    UnknownBases,
 }
 
 /// What was weighed so far: the length of the text of each changeset that came, and how many bytes may still be copied.

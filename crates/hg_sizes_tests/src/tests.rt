@@ -1,10 +1,13 @@
-//! Deltas and changesets spelled by hand, byte by byte, and what they weigh; heaps that refuse.
+//! Deltas and changesets spelled by hand, byte by byte, what they weigh, and on which bases they are; heaps that refuse.
 
 use hg_delta::DeltaFault;
+use hg_help_tests::changelog::put_text;
+use hg_log::{Changelog, node_id};
 use hg_sizes::*;
 use hg_types::{Delta, Entry, Limits, Node, Seq};
 use linked_list_allocator::LocalHeap;
 use std::alloc::{AllocError, Allocator, Global};
+use std::hash::RandomState;
 use std::test::*;
 
 /// (1, 3, `X`).
@@ -15,6 +18,9 @@ const BOTH_ENDS: &[u8] = b"\0\0\0\0\0\0\0\0\0\0\0\x01>\0\0\0\x06\0\0\0\x06\0\0\0
 
 /// (0, 0, `abc`), which makes a text of three bytes of nothing.
 const THREE: &[u8] = b"\0\0\0\0\0\0\0\0\0\0\0\x03abc";
+
+/// (0, 0, `abd`), which makes another one.
+const OTHER: &[u8] = b"\0\0\0\0\0\0\0\0\0\0\0\x03abd";
 
 /// What a delta keeps of six bytes, and what it brings.
 fn measured(delta: &[u8]) -> Result<(usize, usize), DeltaFault> {
@@ -59,15 +65,28 @@ fn add<A: Allocator + Copy>(
     entries: &mut Vec<Entry<A>, A>,
     row: &Row<'_>,
 ) -> Result<(), AllocError> {
-    let delta = match Seq::copy_of(alloc, row.2) {
+    let on = On(node(row.0), Node::NULL, node(row.1), row.2);
+    add_on(alloc, entries, &on)
+}
+
+/// A changeset: its id, that of its first parent, that of its base, and its delta.
+#[derive(Clone, Copy)]
+struct On<'a>(Node, Node, Node, &'a [u8]);
+
+fn add_on<A: Allocator + Copy>(
+    alloc: A,
+    entries: &mut Vec<Entry<A>, A>,
+    on: &On<'_>,
+) -> Result<(), AllocError> {
+    let delta = match Seq::copy_of(alloc, on.3) {
         Ok(bytes) => Delta::of(bytes),
         Err(_) => return Err(AllocError),
     };
     entries.push(Entry {
-        node: node(row.0),
-        p1: Node::NULL,
+        node: on.0,
+        p1: on.1,
         p2: Node::NULL,
-        base: node(row.1),
+        base: on.2,
         delta,
     })?;
     Ok(())
@@ -138,6 +157,78 @@ fn what_is_not_weighed(rt: HostRuntime) -> Result<(), Fail> {
         Row(6, 4, THREE),
     ];
     assert_eq!(rt; found(rt.alloc(), 1, &rows, &[])?, None);
+    Ok(())
+}
+
+/// What is too much of the bases of these changesets, of which so many are on that base behind them.
+fn found_of_bases(
+    log: &Changelog<Global>,
+    alloc: Global,
+    first: &[On<'_>],
+    base: Node,
+    count: u8,
+) -> Result<Option<Excess>, Fail> {
+    let mut entries = Vec::new(alloc);
+    for on in first {
+        add_on(alloc, &mut entries, on)?;
+    }
+    for byte in 0..count {
+        add_on(alloc, &mut entries, &On(node(byte), Node::NULL, base, b""))?;
+    }
+    let found = weigh_bases(alloc, 3, entries.as_slice(), log);
+    Ok(found.ok().ok_or("no memory")?)
+}
+
+// Four deltas may be on 9, which nobody knows, and any number on nothing, and on `r`, which is here.
+#[test]
+fn few_bases_may_be_unknown(rt: HostRuntime) -> Result<(), Fail> {
+    let alloc = rt.alloc();
+    let mut log = Changelog::new(alloc, RandomState::new(&rt)?, Limits::standard());
+    let here = put_text(alloc, &mut log, Node::NULL, Node::NULL, b"r").ok_or("no row")?;
+    assert_eq!(rt; found_of_bases(&log, alloc, &[], node(9), 4)?, None);
+    assert_eq!(rt;
+        found_of_bases(&log, alloc, &[], node(9), 5)?,
+        Some(Excess::UnknownBases)
+    );
+    assert_eq!(rt; found_of_bases(&log, alloc, &[], Node::NULL, 5)?, None);
+    assert_eq!(rt; found_of_bases(&log, alloc, &[], here, 5)?, None);
+    Ok(())
+}
+
+// `abc` comes on nothing, and then the same on it, by a delta without a hunk: each may be a base of any number. Where `abd`
+// comes first under that id, or a delta with a fault, the id is not known, also where `abc` comes behind it.
+#[test]
+fn what_the_push_brings_is_known_by_its_hash(rt: HostRuntime) -> Result<(), Fail> {
+    let alloc = rt.alloc();
+    let log = Changelog::new(alloc, RandomState::new(&rt)?, Limits::standard());
+    let base = node_id(&Node::NULL, &Node::NULL, b"abc");
+    let next = node_id(&base, &Node::NULL, b"abc");
+    let right = On(base, Node::NULL, Node::NULL, THREE);
+    let wrong = On(base, Node::NULL, Node::NULL, OTHER);
+    let faulty = On(base, Node::NULL, Node::NULL, ONE_HUNK);
+    let child = On(next, base, base, b"");
+    let stray = On(next, Node::NULL, base, b"");
+    let unknown = Some(Excess::UnknownBases);
+    assert_eq!(rt; found_of_bases(&log, alloc, &[right], base, 9)?, None);
+    assert_eq!(rt;
+        found_of_bases(&log, alloc, &[right, child], next, 9)?,
+        None
+    );
+    assert_eq!(rt;
+        found_of_bases(&log, alloc, &[right, stray], next, 5)?,
+        unknown
+    );
+    assert_eq!(rt; found_of_bases(&log, alloc, &[wrong], base, 4)?, None);
+    assert_eq!(rt; found_of_bases(&log, alloc, &[wrong], base, 5)?, unknown);
+    assert_eq!(rt; found_of_bases(&log, alloc, &[faulty], base, 5)?, unknown);
+    assert_eq!(rt;
+        found_of_bases(&log, alloc, &[wrong, right], base, 5)?,
+        unknown
+    );
+    assert_eq!(rt;
+        found_of_bases(&log, alloc, &[right, wrong], base, 9)?,
+        None
+    );
     Ok(())
 }
 

@@ -1,12 +1,12 @@
 //! Whether the texts of a push are short, and copy little, which is asked before anybody else is.
 
-ghost use Rattle.std.specs.Prelude.{◌≡◌, ◌≢◌, map, IfOk};
+ghost use Rattle.std.specs.Prelude.{◌≡◌, ◌≢◌, IfOk};
 ghost use Rattle.std.specs.List.{list_any};
 ghost use Rattle.hg_types.specs.NullId.{null_node};
-ghost use Rattle.hg_types.specs.declared.node.Node.{Node as AnyNode};
-ghost use Rattle.hg_weighing.specs.Weighing.{AreHere, has_bases as some_have_bases, HasWeighed, IsExcess, line_of as line_named, refusal_by};
+ghost use Rattle.hg_weighing.specs.Weighing.{has_bases as some_have_bases, HasWeighed, IsExcess, IsExcessOf};
+ghost use Rattle.hg_weighing.specs.Weighing.{line_of as line_named, refusal_by};
 
-use crate::lengths::TextLengths;
+use crate::weight::Weight;
 use hg_http::{Policy, Verdict};
 use hg_serve::{Client, Naming, Server};
 use hg_sizes::{Excess, changesets_of, weigh};
@@ -14,8 +14,9 @@ use hg_types::{Entry, NoMemory, Node, Seq};
 use std::alloc::{Allocator, Global};
 use std::sync::{Mutex, Wait};
 
-/// Weighs each push before it is asked about: a push with a text of more than `most` bytes is refused, and one whose deltas
-/// copy more from their bases, all together, than four times that and the bytes that came.
+/// Weighs each push before it is asked about: a push with a text of more than `most` bytes is refused, one whose deltas copy
+/// more from their bases, all together, than four times that and the bytes that came, and one of which more than four
+/// deltas are on bases that are not known.
 pub struct Weighing<'a, J: Naming<A>, R, P, A: Allocator = Global> {
     pub rt: &'a R,
     pub alloc: A,
@@ -78,26 +79,25 @@ impl<J: Naming<A>, R: Wait, P, A: Allocator + Copy> Weighing<'_, J, R, P, A> {
         let Some(entries) = changesets_of(self.alloc, limits, body)? else {
             return Ok(None);
         };
-        let entries = entries.as_slice();
-        let here = self.lengths_of_bases(entries)?;
-        weigh(self.alloc, self.most, body.len(), entries, here.as_slice())
+        self.excess_of(body.len(), entries.as_slice())
     }
 
-    /// The length of the text of each base that is here. Where no delta has a base, nobody looks.
-    fn lengths_of_bases(&self, entries: &[Entry<A>]) -> Result<Seq<Option<usize>, A>, NoMemory>
-        ensures { IfOk result (λ here. AreHere J.first entries.now here) }
+    /// What is too much of a push of so many bytes with these changesets. Where no delta has a base, nobody looks.
+    fn excess_of(&self, bytes: usize, entries: &[Entry<A>]) -> Result<Option<Excess>, NoMemory>
+        ensures { IfOk result (λ found. IsExcessOf J.first self.now.most bytes entries.now found) }
     {
         if !has_bases(entries) {
-            return Ok(Seq::new(self.alloc));
+            return weigh(self.alloc, self.most, bytes, entries, &[]);
         }
-        let bases = bases_of(self.alloc, entries)?;
-        let question = TextLengths {
+        let weight = Weight {
             alloc: self.alloc,
-            nodes: bases.as_slice(),
+            most: self.most,
+            bytes,
+            entries,
         };
         let mut client = self.client.lock(self.rt);
-        let (lengths, _rests) = self.server.look_resting(self.rt, &mut *client, &question);
-        lengths
+        let (found, _rests) = self.server.look_resting(self.rt, &mut *client, &weight);
+        found
     }
 }
 
@@ -106,17 +106,6 @@ fn has_bases<A: Allocator>(entries: &[Entry<A>]) -> bool
     ensures { result ≡ some_have_bases entries.now }
 {
     entries.iter().any(|entry| entry.base != Node::NULL)
-}
-
-/// The base of each delta.
-fn bases_of<A: Allocator + Copy>(alloc: A, entries: &[Entry<A>]) -> Result<Seq<Node, A>, NoMemory>
-    ensures { IfOk result (λ bases. bases ≡ map (λ entry. entry.base) entries.now) }
-{
-    let mut bases = Vec::with_capacity(alloc, entries.len())?;
-    for entry in entries {
-        bases.push(entry.base)?;
-    }
-    Ok(Seq::from_vec(bases))
 }
 
 /// That a push is not let through, and why.
@@ -137,5 +126,7 @@ fn line_of(excess: Excess) -> &'static [u8]
         Excess::LongText => b"the text of a changeset is longer than --text allows".as_slice(),
         Excess::MuchCopied =>
             b"the deltas of the changesets copy too much from their bases".as_slice(),
+        Excess::UnknownBases =>
+            b"the deltas of more than four changesets are on bases that are not known".as_slice(),
     }
 }

@@ -1,8 +1,7 @@
-use Rattle.std.proofs.Common.{◌≡◌, ◌∙◌, length, Option}
+use Rattle.std.proofs.Common.{◌∙◌, length, Option}
 use Rattle.std.proofs.lemmas.Result.{IfOk-weaker}
-use Rattle.hg_sizes.specs.Weights.{excess_of}
 use Rattle.hg_sizes.specs.declared.weighing.Excess.{Excess}
-use Rattle.hg_weighing.specs.Weighing.{IsExcess}
+use Rattle.hg_weighing.specs.Weighing.{IsExcess, IsExcessOf}
 use Rattle.hg_weighing.proofs.Weighings.{found_by_weighing, nothing_found}
 use Rattle.hg_weighing.proofs.weighing.Weighing.excess.Goals as goal
 
@@ -14,14 +13,13 @@ returns-in_default g c =
 
 pub returns : goal.returns
 returns g c =
+    let first = g.J.Naming.first in
     let body = c.args.body.now in
     let most = c.args.self.now.most in
-    IfOk-weaker c.weigh.result
-    (λ (found : Option Excess). found
-    ≡ excess_of most (length body) c.as_slice-entries.result.now c.as_slice.result.now)
-    (λ (found : Option Excess). IsExcess g.J.Naming.first most body found)
-    (λ found weighs. found_by_weighing g.J.Naming.first most body c.limits-limits.result.now
+    IfOk-weaker c.excess_of.result
+    (λ (found : Option Excess). IsExcessOf first most (length body) c.as_slice.result.now found)
+    (λ (found : Option Excess). IsExcess first most body found)
+    (λ found weighs. found_by_weighing first most body c.limits-limits.result.now
     (c.limits-limits.ensures.value ∙ c.limits-limits.ensures.first) c.in_ok-entries.field-0 c.in-Some.entries
-    c.as_slice-entries.result.now c.in_ok-here.here c.as_slice.result.now found c.in-Some.is
-    c.in_ok-entries.ensures.some c.as_slice-entries.ensures c.in_ok-here.ensures c.as_slice.ensures weighs)
-    c.weigh.ensures
+    c.as_slice.result.now found c.in-Some.is c.in_ok-entries.ensures.some c.as_slice.ensures weighs)
+    c.excess_of.ensures
