@@ -2,6 +2,7 @@
 use Rattle.std.specs.Prelude.{ℕ, ◌≡◌, ◌≤◌, ◌-◌, ⊤, Bool, List, [], ◌∷◌, ◌++◌, length, Option, Some, None}
 use Rattle.std.specs.Prelude.{option_to_list, Result, Ok, Err}
 use Rattle.std.specs.Io.KnownBytes.{Appends, Consumes}
+use mathlib.Core.List.{IsPrefix}
 use Rattle.hg_types.specs.declared.item.Taken.{Taken}
 use Rattle.hg_types.specs.declared.limits.Limits.{Limits}
 use Rattle.hg_types.specs.declared.part.Part.{Part}
@@ -19,8 +20,8 @@ use Rattle.hg_serve.specs.Histories.{newest_first}
 use Rattle.hg_store.specs.Entries.{Entry, Stamp}
 use Rattle.hg_store.specs.declared.head.Head.{Head}
 use Rattle.hg_commit.specs.Clients.{IsCovered, IsKept, KeptSeen, KeptView}
-use Rattle.hg_commit.specs.Orders.{HasGrown, ReceiptView}
-use Rattle.hg_commit.specs.Records.{IsRecordOf}
+use Rattle.hg_commit.specs.Orders.{Comes, HasGrown, ReceiptView}
+use Rattle.hg_commit.specs.Records.{done_in, IsRecordOf}
 use Rattle.hg_connection.specs.Devices.{Input, Output, ReadAnswer, WriteAnswer, TellsMore}
 use Rattle.hg_connection.specs.Sent.{IsSent}
 use Rattle.hg_connection.specs.declared.bundle_end.BundleEnd.{BundleEnd}
@@ -33,6 +34,14 @@ use Rattle.hg_durable.specs.declared.served.Replied.TheVariants.{Sent, NotStored
 abbrev pub record_of : {A : Type 0} → Outcome (Done A) (Refusal A) → Entry → Option Entry
 record_of (done_with done) entry = Some entry
 record_of (Aborted reason) entry = None
+
+-- A request of a client came, and so many done pushes were promised to be on the device by then, to whatever client.
+-- The client has seen a history then that goes on from what it had seen, and has as many done pushes or more.
+pub record CatchesUp {A : Type 0} (first : RepositoryOf A) (before after : KeptSeen A) : Type 0 where
+  pub promised : ℕ
+  pub comes : Comes before.receipt after.receipt promised
+  pub earlier : IsPrefix before.history after.history
+  pub has_all : promised ≤ done_in first after.history
 
 -- A push that was opened, and its client.
 pub record OpenedView (A : Type 0) : Type 0 where

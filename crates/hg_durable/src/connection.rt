@@ -1,14 +1,15 @@
 //! A bundle whose push is kept before it is answered.
 
-ghost use Rattle.std.specs.Prelude.{◌≡◌, [], IfOk, IfErr};
+ghost use Rattle.std.specs.Prelude.{◌≡◌, ◌≤◌, [], IfOk, IfErr};
+ghost use mathlib.Core.List.{IsPrefix};
 ghost use Rattle.hg_stream.specs.Unbundler.{limits_of, ready_of, state_of};
 ghost use Rattle.hg_stream.specs.declared.state.State.TheVariants.{Ended as at_end_mark};
 ghost use Rattle.hg_queue.specs.History.{of, items_of};
 ghost use Rattle.hg_connection.specs.declared.bundle_end.BundleEnd.TheVariants.{Whole};
 ghost use Rattle.hg_connection.specs.Steps.{IsFresh};
 ghost use Rattle.hg_push.specs.Reply.{reply_of};
-ghost use Rattle.hg_commit.specs.Clients.{HasCome};
-ghost use Rattle.hg_durable.specs.Kept.{IsRound, KeepsBundle, KeptExchange, MayBeTold, RepliesBy, record_of};
+ghost use Rattle.hg_commit.specs.Records.{done_in};
+ghost use Rattle.hg_durable.specs.Kept.{CatchesUp, IsRound, KeepsBundle, KeptExchange, MayBeTold, RepliesBy, record_of};
 
 use crate::record::RecordBytes;
 use crate::served::{KeptRound, Replied};
@@ -16,8 +17,8 @@ use hg_commit::{KeptClient, Ledger, Receipt, Room, Storing};
 use hg_connection::{Inbox, Keep, Reader, Writer, mark, receive_kept, send_reply};
 use hg_push::laws::{journals_grow, replies_are_short};
 use hg_push::{OpenFault, Outcome};
-use hg_repo::{Done, Refusal};
-use hg_serve::{Probe, Sender, Server};
+use hg_repo::{Done, Refusal, Repo};
+use hg_serve::{Client, Probe, Question, Sender, Server};
 use hg_store::{Device, Sealed, Stamp};
 use hg_stream::Unbundler;
 use hg_stream::laws::parts_are_few;
@@ -91,18 +92,77 @@ fn record_of<A: Allocator, K: Recorder<A>>(
     }
 }
 
-/// Opens a push with room for its record, which is taken first: **a request of its client comes**, and this is the one
-/// push for it. Where either is refused, the client comes back, and nothing is taken.
+/// A question that asks for nothing: a look that asks it shows the history alone.
+#[derive(Drop)]
+struct Nothing;
+
+impl<A: Allocator> Question<A, ()> for Nothing {
+    ghost use Rattle.std.specs.Prelude.{⊤};
+
+    ghost tells = { λ q repo told. ⊤ };
+
+    fn ask(&self, _repo: &Repo<A>) {}
+}
+
+/// Opens a push for **a request of its client that comes now**, and this is the one push for it. Before, its client
+/// sees as many done pushes as were promised when the request came, or more: so the push goes on from every push whose
+/// reply was sent before, on whatever connection. Room for its record is taken first. Where either is refused, the
+/// client comes back, and nothing is taken.
 pub fn open_kept<J: Storing<A>, D: Device, A: Allocator + Copy, R: Wait>(
     keeping: &Keeping<'_, J, D, R, A>,
     client: KeptClient<J, A>,
 ) -> Result<OpenedKept<J, A>, (KeptClient<J, A>, OpenFault)>
-    ensures ok { IfOk result (λ opened. HasCome client opened.client
+    ensures ok { IfOk result (λ opened. CatchesUp J.first client opened.client
         × (of opened.push (items_of opened.client.history) ≡ [])) }
-    ensures err { IfErr result (λ back. HasCome client back.0) }
+    ensures err { IfErr result (λ back. CatchesUp J.first client back.0) }
+{
+    let client = catch_up(keeping, client);
+    open_with_room(keeping, client)
+}
+
+/// A request of a client comes, and it sees as many done pushes as were promised by then, or more.
+fn catch_up<J: Storing<A>, D: Device, A: Allocator + Copy, R: Wait>(
+    keeping: &Keeping<'_, J, D, R, A>,
+    client: KeptClient<J, A>,
+) -> KeptClient<J, A>
+    ensures { CatchesUp J.first client result }
 {
     let mut client = client;
-    keeping.ledger.come(&mut client);
+    let promised = keeping.ledger.come(&mut client);
+    let (mut client, receipt) = client.into_parts();
+    see_done(keeping, &mut client, promised);
+    KeptClient::of(client, receipt)
+}
+
+/// Looks until a client has seen at least so many done pushes. These were done before that was promised, so the first
+/// look finds them.
+fn see_done<J: Storing<A>, D: Device, A: Allocator + Copy, R: Wait>(
+    keeping: &Keeping<'_, J, D, R, A>,
+    client: &mut Client<J, A>,
+    least: u64,
+)
+    ensures earlier { IsPrefix client.old client.new }
+    ensures enough { least ≤ done_in J.first client.new }
+{
+    'looking: for _ in keeping.rt.forever() {
+        let (_nothing, done) = keeping.server.look_resting(keeping.rt, client, &Nothing);
+        if least <= done as u64 {
+            return;
+        }
+    }
+    unreachable!()
+}
+
+/// Opens a push with room for its record, which is taken first. Its client has seen what it had, no item of the push
+/// among it. Where either is refused, the client comes back as it was, and nothing is taken.
+fn open_with_room<J: Storing<A>, D: Device, A: Allocator + Copy, R: Wait>(
+    keeping: &Keeping<'_, J, D, R, A>,
+    client: KeptClient<J, A>,
+) -> Result<OpenedKept<J, A>, (KeptClient<J, A>, OpenFault)>
+    ensures ok { IfOk result (λ opened. (opened.client ≡ client)
+        × (of opened.push (items_of client.history) ≡ [])) }
+    ensures err { IfErr result (λ back. back.0 ≡ client) }
+{
     let room = match keeping.ledger.room(keeping.rt) {
         Ok(room) => room,
         Err(_) => return Err((client, OpenFault::NoMemory)),

@@ -8,9 +8,10 @@ use Rattle.http.specs.declared.request.Request.{Request}
 use Rattle.hg_parts.specs.Repository.{Repository}
 use Rattle.hg_push.specs.Run.{RepositoryOf}
 use Rattle.hg_store.specs.Entries.{Stamp}
-use Rattle.hg_commit.specs.Clients.{HasCome, IsLater, KeptSeen}
+use Rattle.hg_commit.specs.Clients.{IsLater, KeptSeen}
 use Rattle.hg_commit.specs.Orders.{Came, Comes, HasGrown, ReceiptView}
 use Rattle.hg_commit.specs.Records.{done_in}
+use Rattle.hg_durable.specs.Kept.{CatchesUp}
 use Rattle.hg_wireproto.specs.declared.batch.BatchCommand.{BatchCommand as Asked}
 use Rattle.hg_wireproto.specs.declared.form.Field.{Field}
 use Rattle.hg_http.specs.declared.address.AddressFault.{AddressFault}
@@ -36,7 +37,7 @@ use Rattle.hg_web.specs.Looking.{LooksKept}
 use Rattle.hg_web.specs.Pushes.{How, IsPushAnswered, Pushes}
 use Rattle.hg_web.specs.declared.push.KeptPush.{KeptPush}
 
-prefix_again : {X : Type 0} (xs ys zs : List X) → IsPrefix xs ys → IsPrefix ys zs → IsPrefix xs zs
+pub prefix_again : {X : Type 0} (xs ys zs : List X) → IsPrefix xs ys → IsPrefix ys zs → IsPrefix xs zs
 prefix_again xs ys zs p q = (p.0 ++ q.0, sym (append_assoc xs p.0 q.0) ∙ (ap (λ l. l ++ q.0) p.1 ∙ q.1))
 
 -- a receipt has what it has
@@ -68,11 +69,12 @@ is_as_late client = record { seen = ([], append-nil client.history); grows = as_
 same_later : {A : Type 0} (before after : KeptSeen A) → after ≡ before → IsLater before after
 same_later before after is = subst (λ c. IsLater before c) (sym is) (is_as_late before)
 
--- whose request came has seen what it had seen
-pub come_later : {A : Type 0} (before after : KeptSeen A) → HasCome before after → IsLater before after
-come_later before after is = record {
-  seen = ([], append-nil before.history ∙ sym is.0);
-  grows = came_and_grew before.receipt after.receipt after.receipt is.1.0 is.1.1 (as_before after.receipt);
+-- whose request came, and who saw what was promised, has seen what it had seen
+come_later : {A : Type 0} (first : RepositoryOf A) (before after : KeptSeen A) → CatchesUp first before after →
+    IsLater before after
+come_later first before after is = record {
+  seen = is.earlier;
+  grows = came_and_grew before.receipt after.receipt after.receipt is.promised is.comes (as_before after.receipt);
 }
 
 -- whoever looked has seen what it had seen, or more
@@ -153,10 +155,12 @@ module _ {A : Type 0} (capacity : ℕ) (first : RepositoryOf A) (kept : ReceiptV
     pushes_later : (stamp : Stamp) (body : List ℕ) (ended : Option (KeptPush A)) →
         Pushes capacity first kept stamp before body ended after → IsLater before after
     pushes_later stamp body None (inl is) = same_later before after is
-    pushes_later stamp body None (inr is) = come_later before after is
+    pushes_later stamp body None (inr is) = come_later first before after is
     pushes_later stamp body (Some told) is = subst (λ c. IsLater before c) is.3 (record {
-      seen = is.1.answers.earlier;
-      grows = came_and_grew before.receipt is.1.asked is.0.after.receipt is.1.promised is.1.comes is.1.grows;
+      seen = prefix_again before.history is.1.opened.history is.0.after.history is.1.catches_up.earlier
+          is.1.answers.earlier;
+      grows = came_and_grew before.receipt is.1.opened.receipt is.0.after.receipt is.1.catches_up.promised
+          is.1.catches_up.comes is.1.grows;
     })
 
     pushed_later : (stamp : Stamp) (body : List ℕ) (reply : How A → List ℕ) →

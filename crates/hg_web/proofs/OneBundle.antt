@@ -2,27 +2,24 @@
 use Rattle.std.proofs.Common.{◌≡◌, ◌≢◌, ℕ, List, [], ◌∷◌, ◌++◌, Option, Some, None}
 use Rattle.std.proofs.Common.{sym, ap, subst, ◌∙◌, append-nil, append_assoc, map, drop}
 use Rattle.std.specs.Prelude.{⊤, Bool, IfSome, Result, Ok, Err}
-use Rattle.hg_types.specs.declared.item.Taken.{Taken}
 use Rattle.hg_types.specs.declared.limits.Limits.{Limits}
 use Rattle.hg_push.specs.Reply.{reply_of}
 use Rattle.hg_push.specs.Run.{RepositoryOf}
-use Rattle.hg_queue.specs.History.{of, items_of}
-use Rattle.hg_serve.specs.Answers.{Answers}
 use Rattle.hg_connection.specs.Devices.{Output, ReadAnswer, Gave, Failed, WriteAnswer}
 use Rattle.hg_connection.specs.Sent.{IsSent}
 use Rattle.hg_connection.specs.declared.sending.Sending.TheVariants.{Whole as sent_whole}
 use Rattle.hg_connection.specs.declared.bundle_end.BundleEnd.{BundleEnd}
 use Rattle.hg_connection.specs.declared.bundle_end.BundleEnd.TheVariants.{InputEnded, ReadFailed}
-use Rattle.hg_connection.specs.Receiving.{IsReceived, last_read, mark_of, push_items, Ran, StopsBundle}
+use Rattle.hg_connection.specs.Receiving.{IsReceived, last_read, Ran, StopsBundle}
 use Rattle.hg_store.specs.Entries.{Entry, Stamp}
 use Rattle.hg_store.specs.declared.head.Head.{Head}
-use Rattle.hg_commit.specs.Clients.{HasCome, IsKept, IsLater, KeptSeen, KeptView}
+use Rattle.hg_commit.specs.Clients.{IsKept, IsLater, KeptSeen, KeptView}
 use Rattle.hg_commit.specs.Orders.{ReceiptView}
-use Rattle.hg_durable.specs.Kept.{IsKeptOrNot, IsReplied, KeepsBundle, KeptExchange, OpenedView, RepliesBy}
+use Rattle.hg_durable.specs.Kept.{CatchesUp, IsKeptOrNot, IsReplied, KeepsBundle, KeptExchange, OpenedView, RepliesBy}
 use Rattle.hg_durable.specs.declared.served.Replied.{Replied}
 use Rattle.hg_durable.specs.declared.served.Replied.TheVariants.{Sent}
 use Rattle.hg_web.specs.code.Bodies.{BodyView, given, input_of}
-use Rattle.hg_web.proofs.Later.{came_and_grew}
+use Rattle.hg_web.proofs.Later.{came_and_grew, prefix_again}
 use Rattle.hg_web.specs.code.Rounds.{IsOfRound}
 use Rattle.hg_web.specs.Pushes.{How, IsPush, PushesOrFails}
 use Rattle.hg_web.specs.declared.push.KeptPush.{KeptPush}
@@ -80,7 +77,7 @@ module _ {A D : Type 0} (seen : D → List ℕ) (may_leave : D → List ℕ → 
     (stamp : Stamp) (x : KeptExchange A) (beats : Bool)
     (v : KeepsBundle limits capacity first [] waiting (input_of (record { bytes = body; at = 0; reads = [] }))
     (input_of left) opened stamp x)
-    (come : HasCome before opened.client)
+    (come : CatchesUp first before opened.client)
     (same : limits ≡ first.settings.limits)
   where
     abbrev kept : ReceiptView → KeptSeen A → ℕ → Type 0
@@ -97,22 +94,14 @@ module _ {A D : Type 0} (seen : D → List ℕ) (may_leave : D → List ℕ → 
         let at_end : rest ≡ [] = subst (λ e. Ran e (input_of left)) ended v.flows.ran in
         ap (λ l. l ++ rest) none ∙ at_end
 
-    answers : Answers capacity first x.push (push_items x.push x.parts (mark_of x.ending)) before.history x.how x.takes
-        x.after.history
-    answers =
-        let put = push_items x.push x.parts (mark_of x.ending) in
-        subst (λ (h : List (Taken A)). Answers capacity first x.push put h x.how x.takes x.after.history) come.0
-        v.is.answers
-
     is_push : kept opened.client.receipt x.after x.rests → IsPush capacity first kept stamp before body x
     is_push are_kept = record {
-      asked = opened.client.receipt;
-      promised = come.1.0;
-      comes = come.1.1;
+      opened = opened.client;
+      catches_up = come;
       one = v.is.came;
       received = subst (λ l. IsReceived l [] x.reads x.ending x.parts x.consumed x.rest) same v.is.received;
-      fresh = subst (λ (h : List (Taken A)). of x.push (items_of h) ≡ []) come.0 v.is.fresh;
-      answers = answers;
+      fresh = v.is.fresh;
+      answers = v.is.answers;
       grows = v.is.grows;
       rests_on = v.is.rests_on;
       recorded = v.is.recorded;
@@ -127,8 +116,8 @@ module _ {A D : Type 0} (seen : D → List ℕ) (may_leave : D → List ℕ → 
 
     is_later : IsLater before x.after
     is_later = record {
-      seen = answers.earlier;
-      grows = came_and_grew before.receipt opened.client.receipt x.after.receipt come.1.0 come.1.1 v.is.grows;
+      seen = prefix_again before.history opened.client.history x.after.history come.earlier v.is.answers.earlier;
+      grows = came_and_grew before.receipt opened.client.receipt x.after.receipt come.promised come.comes v.is.grows;
     }
 
     pub pushed : {E F : Type 0} (how : How A) → x.how ≡ how → (it : Result (KeptView A) (KeptSeen A × E))

@@ -17,9 +17,9 @@ use Rattle.hg_serve.specs.Histories.{newest_first}
 use Rattle.hg_connection.specs.declared.bundle_end.BundleEnd.TheVariants.{InputEnded, ReadFailed}
 use Rattle.hg_connection.specs.Receiving.{IsReceived, mark_of, push_items}
 use Rattle.hg_store.specs.Entries.{Stamp}
-use Rattle.hg_commit.specs.Clients.{HasCome, IsLater, KeptSeen}
-use Rattle.hg_commit.specs.Orders.{Comes, HasGrown, ReceiptView}
-use Rattle.hg_durable.specs.Kept.{AreRecorded, KeptExchange, record_of}
+use Rattle.hg_commit.specs.Clients.{IsLater, KeptSeen}
+use Rattle.hg_commit.specs.Orders.{HasGrown, ReceiptView}
+use Rattle.hg_durable.specs.Kept.{AreRecorded, CatchesUp, KeptExchange, record_of}
 use Rattle.hg_http.specs.declared.answer.HttpAnswer.{HttpAnswer}
 use Rattle.hg_http.specs.declared.answer.HttpAnswer.TheVariants.{Text, Refused}
 use Rattle.hg_http.specs.declared.answer.RequestRefusal.TheVariants.{NotOpened, NoAnswer}
@@ -35,42 +35,42 @@ abbrev pub Answered : {A E : Type 0} → (KeptSeen A → HttpAnswer A → KeptSe
 Answered Says before (Ok answer) after = Says before answer after
 Answered Says before (Err e) after = IsLater before after
 
--- One bundle was pushed: its bytes begin the body, and end before it only after an end mark or a fault. No
--- read of the body failed. The push goes on from what its client had seen, and ended so. The answer rests on so
--- many done pushes, of which a done one is the last, with its bundle as its record, which was handed in with that stamp;
--- all of these were on the device, and the receipt of its client has a promise of them; with beats this rests on one that
--- began behind the request. It is one push: a request of its client came, the push was opened for it, and no other request
--- of this client came until it was answered.
+-- One bundle was pushed: its bytes begin the body, and end before it only after an end mark or a fault. No read of the
+-- body failed. It is one push: a request of its client came, the push was opened for it, and no other request of this
+-- client came until it was answered. As it was opened, its client had seen as many done pushes as were promised when
+-- the request came, to whatever client, or more, and no item of this push. It goes on from that, and ended so. The
+-- answer rests on so many done pushes, of which a done one is the last, with its bundle as its record, which was
+-- handed in with that stamp; all of these were on the device, and the receipt of its client has a promise of them; with
+-- beats this rests on one that began behind the request.
 pub record IsPush {A : Type 0} (capacity : ℕ) (first : RepositoryOf A)
     (kept : ReceiptView → KeptSeen A → ℕ → Type 0) (stamp : Stamp) (before : KeptSeen A) (body : List ℕ) (x : KeptExchange A) :
     Type 0
   where
-    pub asked : ReceiptView
-    pub promised : ℕ
-    pub comes : Comes before.receipt asked promised
-    pub one : x.after.receipt.came ≡ asked.came
+    pub opened : KeptSeen A
+    pub catches_up : CatchesUp first before opened
+    pub one : x.after.receipt.came ≡ opened.receipt.came
     pub received : IsReceived first.settings.limits [] x.reads x.ending x.parts x.consumed x.rest
-    pub fresh : of x.push (items_of before.history) ≡ []
+    pub fresh : of x.push (items_of opened.history) ≡ []
     pub answers : IsAnswered capacity first x.push (push_items x.push x.parts (mark_of x.ending))
-        before.history x.how x.takes x.after.history
-    pub grows : HasGrown asked x.after.receipt
+        opened.history x.how x.takes x.after.history
+    pub grows : HasGrown opened.receipt x.after.receipt
     pub rests_on : RestsOn run_push first (newest_first x.after.history) x.push x.how x.rests
     pub recorded : AreRecorded first x.after.history x.rests x.handed
     pub handed : x.handed ≡ option_to_list (record_of x.how (record { stamp = stamp; bundle = x.consumed }))
-    pub is_kept : kept asked x.after x.rests
+    pub is_kept : kept opened.receipt x.after x.rests
     pub read : x.ending ≢ ReadFailed
     pub behind : List ℕ
     pub body_is : body ≡ x.consumed ++ behind
     pub whole : x.ending ≡ InputEnded → behind ≡ []
 
--- no push was opened: nothing changed, but that the request may have come
-abbrev pub IsNotOpened : {A : Type 0} → KeptSeen A → KeptSeen A → Type 0
-IsNotOpened before after = (after ≡ before) ⊎ HasCome before after
+-- no push was opened: nothing changed, but that the request may have come, and its client seen what was promised
+abbrev pub IsNotOpened : {A : Type 0} → RepositoryOf A → KeptSeen A → KeptSeen A → Type 0
+IsNotOpened first before after = (after ≡ before) ⊎ CatchesUp first before after
 
 -- No push was opened; or one was, and ended so. Its reply was made, if there was memory for it.
 abbrev pub Pushes : {A : Type 0} → ℕ → RepositoryOf A → (ReceiptView → KeptSeen A → ℕ → Type 0) → Stamp → KeptSeen A →
     List ℕ → Option (KeptPush A) → KeptSeen A → Type 0
-Pushes capacity first kept stamp before body None after = IsNotOpened before after
+Pushes capacity first kept stamp before body None after = IsNotOpened first before after
 Pushes {A} capacity first kept stamp before body (Some push) after =
     (x : KeptExchange A) × IsPush capacity first kept stamp before body x × (x.how ≡ push.outcome)
     × (x.after ≡ after) × IfSome push.reply (λ reply. reply ≡ reply_of push.outcome)
