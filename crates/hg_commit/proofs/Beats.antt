@@ -1,14 +1,16 @@
 -- A beat that was asked for, in the one order.
-use Rattle.std.proofs.Common.{ℕ, ◌≡◌, ◌⊎◌, ◌≤◌, ◌<◌, ◌+◌, ◌∙◌, List, [], ◌∷◌, ◌++◌, sym, ap, subst, inl, inr}
-use Rattle.std.proofs.Common.{⊎_elim, append_assoc, append-nil, arith}
+use Rattle.std.proofs.Common.{ℕ, zero, suc, ◌≡◌, ◌⊎◌, ◌≤◌, ◌<◌, ◌+◌, ◌∙◌, List, [], ◌∷◌, ◌++◌, sym, ap, subst, inl, inr}
+use Rattle.std.proofs.Common.{⊎_elim, append_assoc, append-nil, arith, refl}
 use Rattle.std.specs.Prelude.{Contains, IfSome, Option, None, Some}
 use Rattle.std.specs.Option.{SomeIff}
 use mathlib.Core.List.{IsPrefix}
-use Rattle.std.proofs.lemmas.List.Elements.{All-contains, Contains-push_cases, Contains-append_cases}
+use Rattle.std.proofs.lemmas.List.Elements.{All-contains, All-push, All-same, All-weaker, Contains-push_cases}
+use Rattle.std.proofs.lemmas.List.Elements.{Contains-append_cases}
 use Rattle.hg_commit.specs.Orders.{AreNumbered, AreSeen, Asked, Asks, Began, begun_in, Came, Event, HasBeat}
-use Rattle.hg_commit.specs.Orders.{HasGrown, Promised, promises_in, ReceiptView}
+use Rattle.hg_commit.specs.Orders.{HasGrown, last_begun_at, Promised, promises_in, ReceiptView}
 use Rattle.hg_commit.specs.Clients.{AreWritten}
-use Rattle.hg_commit.specs.Promises.{Promise}
+use Rattle.hg_commit.specs.Promises.{Promise, SayAtMost}
+use Rattle.hg_commit.proofs.Counting.{none_begun}
 
 -- it is the first, or one of the others
 first_or : {X : Type 0} (x y : X) (xs : List X) → Contains (x ∷ xs) y → (x ≡ y) ⊎ Contains xs y
@@ -20,100 +22,188 @@ first_or x y xs has = ⊎_elim
 none_in : {X : Type 0} (x : X) → Contains [] x → ⊥
 none_in x has = let low = has.1 in omega (arith, low)
 
--- A promise that was made after more writes had begun than in a front stands behind it.
-record IsBehind (n : ℕ) (front more : List Event) (p : Promise) : Type 0 where
-  has : Contains (promises_in more) p
-  numbered : AreNumbered (n + begun_in front) more
+none_or_some : (n : ℕ) → (n ≡ 0) ⊎ (1 ≤ n)
+none_or_some zero = inl refl
+none_or_some (suc n) = inr (omega arith)
 
-behind : (n : ℕ) (front more : List Event) (p : Promise) → AreNumbered n (front ++ more)
-    → Contains (promises_in (front ++ more)) p → n + begun_in front < p.write → IsBehind n front more p
-behind n [] more p all has low =
+-- A promise that was made after more writes had begun than in a front stands behind it.
+record IsBehind (n beats : ℕ) (front more : List Event) (p : Promise) : Type 0 where
+  has : Contains (promises_in more) p
+  numbered : AreNumbered (n + begun_in front) (last_begun_at beats front) more
+
+behind : (n beats : ℕ) (front more : List Event) (p : Promise) → AreNumbered n beats (front ++ more)
+    → Contains (promises_in (front ++ more)) p → n + begun_in front < p.write → IsBehind n beats front more p
+behind n beats [] more p all has low =
     let e : n ≡ n + 0 = omega arith in
-    record { has = has; numbered = subst (λ (k : ℕ). AreNumbered k more) e all }
-behind n (Promised q ∷ front) more p all has low =
-    let it = behind n front more p all.1
+    record { has = has; numbered = subst (λ (k : ℕ). AreNumbered k beats more) e all }
+behind n beats (Promised q ∷ front) more p all has low =
+    let it = behind n beats front more p all.2
     (⊎_elim (λ (e : q ≡ p). let same = ap (λ (x : Promise). x.write) e in let made = all.0 in
     absurd (omega (arith, same, made, low))) (λ (c : Contains (promises_in (front ++ more)) p). c)
     (first_or q p (promises_in (front ++ more)) has)) low in
     record { has = it.has; numbered = it.numbered }
-behind n (Came seat ∷ front) more p all has low =
-    let it = behind n front more p all has low in record { has = it.has; numbered = it.numbered }
-behind n (Began ∷ front) more p all has low =
-    let it = behind (n + 1) front more p all has (omega (arith, low)) in
+behind n beats (Came seat ∷ front) more p all has low =
+    let it = behind n beats front more p all has low in record { has = it.has; numbered = it.numbered }
+behind n beats (Began at ∷ front) more p all has low =
+    let it = behind (n + 1) at front more p all has (omega (arith, low)) in
     let e : (n + 1) + begun_in front ≡ n + (1 + begun_in front) = omega arith in
-    record { has = it.has; numbered = subst (λ (k : ℕ). AreNumbered k more) e it.numbered }
-behind n (Asked seat ∷ front) more p all has low =
-    let it = behind n front more p all has low in record { has = it.has; numbered = it.numbered }
+    record {
+      has = it.has;
+      numbered = subst (λ (k : ℕ). AreNumbered k (last_begun_at at front) more) e it.numbered;
+    }
+behind n beats (Asked seat ∷ front) more p all has low =
+    let it = behind n beats front more p all has low in record { has = it.has; numbered = it.numbered }
 
 -- where it stands
-record StandsAt (n : ℕ) (more : List Event) (p : Promise) : Type 0 where
+record StandsAt (n beats : ℕ) (more : List Event) (p : Promise) : Type 0 where
   between : List Event
   later : List Event
   is : more ≡ between ++ Promised p ∷ later
   number : n + begun_in between ≡ p.write
+  beat : 1 ≤ p.write → last_begun_at beats between < p.beats
 
-stands : (n : ℕ) (more : List Event) (p : Promise) → AreNumbered n more → Contains (promises_in more) p → StandsAt n more p
-stands n [] p all has = absurd (none_in p has)
-stands n (Promised q ∷ more) p all has = ⊎_elim
+stands : (n beats : ℕ) (more : List Event) (p : Promise) → AreNumbered n beats more → Contains (promises_in more) p
+    → StandsAt n beats more p
+stands n beats [] p all has = absurd (none_in p has)
+stands n beats (Promised q ∷ more) p all has = ⊎_elim
     (λ (e : q ≡ p). let same = ap (λ (x : Promise). x.write) e in let made = all.0 in
     record {
       between = [];
       later = more;
       is = ap (λ (x : Promise). Promised x ∷ more) e;
       number = omega (arith, same, made);
+      beat = λ some. subst (λ (x : Promise). beats < x.beats) e (all.1 (omega (arith, same, made, some)));
     })
-    (λ (c : Contains (promises_in more) p). let it = stands n more p all.1 c in
+    (λ (c : Contains (promises_in more) p). let it = stands n beats more p all.2 c in
     record {
       between = Promised q ∷ it.between;
       later = it.later;
       is = ap (λ l. Promised q ∷ l) it.is;
       number = it.number;
+      beat = it.beat;
     })
     (first_or q p (promises_in more) has)
-stands n (Came seat ∷ more) p all has = let it = stands n more p all has in record {
+stands n beats (Came seat ∷ more) p all has = let it = stands n beats more p all has in record {
   between = Came seat ∷ it.between;
   later = it.later;
   is = ap (λ l. Came seat ∷ l) it.is;
   number = it.number;
+  beat = it.beat;
 }
-stands n (Began ∷ more) p all has =
-    let it = stands (n + 1) more p all has in
+stands n beats (Began at ∷ more) p all has =
+    let it = stands (n + 1) at more p all has in
     let number = it.number in
     record {
-      between = Began ∷ it.between;
+      between = Began at ∷ it.between;
       later = it.later;
-      is = ap (λ l. Began ∷ l) it.is;
+      is = ap (λ l. Began at ∷ l) it.is;
       number = omega (arith, number);
+      beat = it.beat;
     }
-stands n (Asked seat ∷ more) p all has = let it = stands n more p all has in record {
+stands n beats (Asked seat ∷ more) p all has = let it = stands n beats more p all has in record {
   between = Asked seat ∷ it.between;
   later = it.later;
   is = ap (λ l. Asked seat ∷ l) it.is;
   number = it.number;
+  beat = it.beat;
 }
+
+-- the last write that began among these, when the device had had fewer beats than that
+record LastBegan (n : ℕ) (events : List Event) : Type 0 where
+  front : List Event
+  at : ℕ
+  back : List Event
+  is : events ≡ front ++ Began at ∷ back
+  none_more : begun_in back ≡ 0
+  low : at < n
+
+-- it is the first of these, or one behind
+first_began : (at n : ℕ) (events : List Event) → last_begun_at at events < n
+    → (begun_in events ≡ 0) ⊎ (1 ≤ begun_in events) → (1 ≤ begun_in events → LastBegan n events)
+    → LastBegan n (Began at ∷ events)
+first_began at n events low (inl none_more) more = record {
+  front = [];
+  at = at;
+  back = events;
+  is = refl;
+  none_more = none_more;
+  low = subst (λ (k : ℕ). k < n) (none_begun at events none_more) low;
+}
+first_began at n events low (inr some) more = let it = more some in record {
+  front = Began at ∷ it.front;
+  at = it.at;
+  back = it.back;
+  is = ap (λ l. Began at ∷ l) it.is;
+  none_more = it.none_more;
+  low = it.low;
+}
+
+last_began : (beats n : ℕ) (events : List Event) → last_begun_at beats events < n → 1 ≤ begun_in events
+    → LastBegan n events
+last_began beats n [] low some = absurd (omega (arith, some))
+last_began beats n (Promised p ∷ events) low some = let it = last_began beats n events low some in record {
+  front = Promised p ∷ it.front;
+  at = it.at;
+  back = it.back;
+  is = ap (λ l. Promised p ∷ l) it.is;
+  none_more = it.none_more;
+  low = it.low;
+}
+last_began beats n (Came seat ∷ events) low some = let it = last_began beats n events low some in record {
+  front = Came seat ∷ it.front;
+  at = it.at;
+  back = it.back;
+  is = ap (λ l. Came seat ∷ l) it.is;
+  none_more = it.none_more;
+  low = it.low;
+}
+last_began beats n (Began at ∷ events) low some =
+    first_began at n events low (none_or_some (begun_in events)) (λ more. last_began at n events low more)
+last_began beats n (Asked seat ∷ events) low some = let it = last_began beats n events low some in record {
+  front = Asked seat ∷ it.front;
+  at = it.at;
+  back = it.back;
+  is = ap (λ l. Asked seat ∷ l) it.is;
+  none_more = it.none_more;
+  low = it.low;
+}
+
+-- what was seen, from the ask on, by where the last write began
+spelled_on : (now asked rest between later front back : List Event) (began promised : Event) → now ≡ asked ++ rest
+    → rest ≡ between ++ promised ∷ later → between ≡ front ++ began ∷ back
+    → now ≡ asked ++ (front ++ began ∷ (back ++ promised ∷ later))
+spelled_on now asked rest between later front back began promised whole is last =
+    whole ∙ ap (λ l. asked ++ l)
+    (is ∙ (ap (λ l. l ++ promised ∷ later) last ∙ append_assoc front (began ∷ back) (promised ∷ later)))
 
 -- Who asked for a beat and has a promise then that was made after a later write had begun has that beat.
 pub beat_of : (before asked now : ReceiptView) (begun rests : ℕ) (p : Promise) → Asks before asked begun
-    → now.asked ≡ asked.asked → IsPrefix asked.order now.order → AreNumbered 0 now.order → AreSeen now
+    → now.asked ≡ asked.asked → IsPrefix asked.order now.order → AreNumbered 0 0 now.order → AreSeen now
     → Contains now.promises p → begun < p.write → rests ≤ p.count → HasBeat before now rests
 beat_of before asked now begun rests p asks one front numbered seen has low enough =
     let there = All-contains (Contains (promises_in now.order)) now.promises p seen has in
     let whole = sym front.1 in
     let count = asks.counts in
-    let back = behind 0 asked.order front.0 p (subst (AreNumbered 0) whole numbered)
+    let back = behind 0 0 asked.order front.0 p (subst (AreNumbered 0 0) whole numbered)
     (subst (λ (l : List Event). Contains (promises_in l) p) whole there) (omega (arith, count, low)) in
-    let it = stands (0 + begun_in asked.order) front.0 p back.numbered back.has in
+    let it = stands (0 + begun_in asked.order) (last_begun_at 0 asked.order) front.0 p back.numbered back.has in
     let number = it.number in
+    let begin = last_began (last_begun_at 0 asked.order) p.beats it.between (it.beat (omega (arith, low)))
+    (omega (arith, number, count, low)) in
     record {
       asked = asked;
       begun = begun;
       asks = asks;
       one = one;
-      between = it.between;
+      between = begin.front;
+      beats = begin.at;
+      behind = begin.back;
       promise = p;
       later = it.later;
-      order = whole ∙ ap (λ l. asked.order ++ l) it.is;
-      began = omega (arith, number, count, low);
+      order = spelled_on now.order asked.order front.0 it.between it.later begin.front begin.back (Began begin.at)
+          (Promised p) whole it.is begin.is;
+      last = begin.none_more;
+      beat = begin.low;
       has = has;
       counts = enough;
     }
@@ -164,3 +254,14 @@ pub written_less : (promises : List Promise) (rests late write : ℕ) → write 
 written_less promises rests late write low w =
     let written = w.written in
     record { promise = w.promise; has = w.has; counts = w.counts; written = omega (arith, written, low) }
+
+-- ---- what promises say
+
+-- a promise was made as the device had had so many beats, and no fewer than the others say
+pub said_with : (promises made : List Promise) (p : Promise) (before now : ℕ) → before ≤ now → p.beats ≡ now
+    → made ≡ promises ++ p ∷ [] → SayAtMost before promises → SayAtMost now made
+said_with promises made p before now low same is said =
+    All-same (λ (q : Promise). q.beats ≤ now) made (promises ++ p ∷ []) is
+    (All-push (λ (q : Promise). q.beats ≤ now) promises p
+    (All-weaker (λ (q : Promise). q.beats ≤ before) (λ (q : Promise). q.beats ≤ now)
+    (λ q few. omega (arith, low, few)) promises said) (omega (arith, same)))

@@ -12,7 +12,7 @@ use Rattle.atomic_table.specs.Table.{Me, State, step, keeps, opening, Allows, En
 use Rattle.atomic_table.proofs.Lists.{at_set, set_again}
 use Rattle.hg_commit.specs.declared.known.Known.{Known}
 use Rattle.hg_commit.specs.Orders.{AreNumbered, Asked, asks_at, Began, begun_in, Came, comings_to, Event}
-use Rattle.hg_commit.specs.Orders.{Promised, promises_in}
+use Rattle.hg_commit.specs.Orders.{last_begun_at, Promised, promises_in}
 use Rattle.hg_commit.specs.Promises.{Promise}
 use Rattle.hg_commit.specs.code.Tallies.{AreAmong, arrives, asks, asks_first, begun_more, comes, CountAtMost}
 use Rattle.hg_commit.specs.code.Tallies.{heard_from, IsTallied, keeper, KnownFits}
@@ -30,7 +30,7 @@ promises_append : (xs ys : List Event) → promises_in (xs ++ ys) ≡ promises_i
 promises_append [] ys = refl
 promises_append (Promised p ∷ xs) ys = ap (λ l. p ∷ l) (promises_append xs ys)
 promises_append (Came seat ∷ xs) ys = promises_append xs ys
-promises_append (Began ∷ xs) ys = promises_append xs ys
+promises_append (Began at ∷ xs) ys = promises_append xs ys
 promises_append (Asked seat ∷ xs) ys = promises_append xs ys
 
 comings_append : (seat : ℕ) (xs ys : List Event) → comings_to seat (xs ++ ys) ≡ comings_to seat xs + comings_to seat ys
@@ -40,14 +40,14 @@ comings_append seat (Came at ∷ xs) ys =
     let more = comings_append seat xs ys in
     let n : ℕ = if at == seat then 1 else 0 in
     omega (arith, more)
-comings_append seat (Began ∷ xs) ys = comings_append seat xs ys
+comings_append seat (Began at ∷ xs) ys = comings_append seat xs ys
 comings_append seat (Asked at ∷ xs) ys = comings_append seat xs ys
 
 asks_append : (seat : ℕ) (xs ys : List Event) → asks_at seat (xs ++ ys) ≡ asks_at seat xs + asks_at seat ys
 asks_append seat [] ys = omega arith
 asks_append seat (Promised p ∷ xs) ys = asks_append seat xs ys
 asks_append seat (Came at ∷ xs) ys = asks_append seat xs ys
-asks_append seat (Began ∷ xs) ys = asks_append seat xs ys
+asks_append seat (Began at ∷ xs) ys = asks_append seat xs ys
 asks_append seat (Asked at ∷ xs) ys =
     let more = asks_append seat xs ys in
     let n : ℕ = if at == seat then 1 else 0 in
@@ -57,19 +57,28 @@ begun_append : (xs ys : List Event) → begun_in (xs ++ ys) ≡ begun_in xs + be
 begun_append [] ys = omega arith
 begun_append (Promised p ∷ xs) ys = begun_append xs ys
 begun_append (Came at ∷ xs) ys = begun_append xs ys
-begun_append (Began ∷ xs) ys = let more = begun_append xs ys in omega (arith, more)
+begun_append (Began at ∷ xs) ys = let more = begun_append xs ys in omega (arith, more)
 begun_append (Asked at ∷ xs) ys = begun_append xs ys
 
-numbered_append : (n : ℕ) (xs ys : List Event) → AreNumbered n xs → AreNumbered (n + begun_in xs) ys
-    → AreNumbered n (xs ++ ys)
-numbered_append n [] ys front more =
-    let e : n + 0 ≡ n = omega arith in subst (λ (k : ℕ). AreNumbered k ys) e more
-numbered_append n (Promised p ∷ xs) ys front more = (front.0, numbered_append n xs ys front.1 more)
-numbered_append n (Came at ∷ xs) ys front more = numbered_append n xs ys front more
-numbered_append n (Began ∷ xs) ys front more =
+last_append : (beats : ℕ) (xs ys : List Event)
+    → last_begun_at beats (xs ++ ys) ≡ last_begun_at (last_begun_at beats xs) ys
+last_append beats [] ys = refl
+last_append beats (Promised p ∷ xs) ys = last_append beats xs ys
+last_append beats (Came at ∷ xs) ys = last_append beats xs ys
+last_append beats (Began at ∷ xs) ys = last_append at xs ys
+last_append beats (Asked at ∷ xs) ys = last_append beats xs ys
+
+numbered_append : (n beats : ℕ) (xs ys : List Event) → AreNumbered n beats xs
+    → AreNumbered (n + begun_in xs) (last_begun_at beats xs) ys → AreNumbered n beats (xs ++ ys)
+numbered_append n beats [] ys front more =
+    let e : n + 0 ≡ n = omega arith in subst (λ (k : ℕ). AreNumbered k beats ys) e more
+numbered_append n beats (Promised p ∷ xs) ys front more =
+    (front.0, front.1, numbered_append n beats xs ys front.2 more)
+numbered_append n beats (Came at ∷ xs) ys front more = numbered_append n beats xs ys front more
+numbered_append n beats (Began at ∷ xs) ys front more =
     let e : n + (1 + begun_in xs) ≡ (n + 1) + begun_in xs = omega arith in
-    numbered_append (n + 1) xs ys front (subst (λ (k : ℕ). AreNumbered k ys) e more)
-numbered_append n (Asked at ∷ xs) ys front more = numbered_append n xs ys front more
+    numbered_append (n + 1) at xs ys front (subst (λ (k : ℕ). AreNumbered k (last_begun_at at xs) ys) e more)
+numbered_append n beats (Asked at ∷ xs) ys front more = numbered_append n beats xs ys front more
 
 -- a request to a seat comes to it, and to no other
 came_here : (seat : ℕ) → comings_to seat (Came seat ∷ []) ≡ 1
@@ -115,6 +124,17 @@ same_asks at n order more quiet is = let whole = asks_append at order more in om
 same_begun : (order more : List Event) → begun_in more ≡ 0 → begun_in order ≡ begun_in (order ++ more)
 same_begun order more none_more = let whole = begun_append order more in omega (arith, whole, none_more)
 
+pub none_begun : (beats : ℕ) (more : List Event) → begun_in more ≡ 0 → last_begun_at beats more ≡ beats
+none_begun beats [] none_more = refl
+none_begun beats (Promised p ∷ more) none_more = none_begun beats more none_more
+none_begun beats (Came at ∷ more) none_more = none_begun beats more none_more
+none_begun beats (Began at ∷ more) none_more = absurd (omega (arith, none_more))
+none_begun beats (Asked at ∷ more) none_more = none_begun beats more none_more
+
+same_last : (order more : List Event) → begun_in more ≡ 0 → last_begun_at 0 order ≡ last_begun_at 0 (order ++ more)
+same_last order more none_more =
+    sym (last_append 0 order more ∙ none_begun (last_begun_at 0 order) more none_more)
+
 -- at a seat nothing happens
 abbrev IsQuiet : ℕ → List Event → Type 0
 IsQuiet at more = (comings_to at more ≡ 0) × (asks_at at more ≡ 0)
@@ -146,6 +166,7 @@ longer seat order more at v none_more quiet f = record {
     (f.kept k).0,
     (f.kept k).1 ∙ same_promises order more (none_more k).0,
     (f.kept k).2 ∙ same_begun order more (none_more k).1,
+    (f.kept k).3 ∙ same_last order more (none_more k).1,
   );
   low = among_longer v.promises order more f.low;
   begins = prefix_longer v.order order more f.begins;
@@ -206,7 +227,7 @@ begins = record {
     one : (at : ℕ) (v : Known) → get_elem? (keeper ∷ []) at ≡ some v → KnownFits 0 [] at v
     one zero v e = subst (KnownFits 0 [] 0) (some-injective _ _ e)
         (record {
-          kept = λ _. (refl, refl, refl);
+          kept = λ _. (refl, refl, refl, refl);
           low = none_among [];
           begins = ([], refl);
           own = λ live. (refl, refl);
@@ -219,7 +240,7 @@ begins = record {
 happened : (s : State (Unit {0}) Known) (r : IsTallied s) (id : ℕ) (v : Known) (at : get_elem? s.views id ≡ some v)
     (more : List Event) (word : ℕ) (words : List ℕ) (w : Known) → words ≡ word ∷ begun_in (r.order ++ more) ∷ []
     → CountAtMost word (promises_in (r.order ++ more))
-    → AreNumbered (0 + begun_in r.order) more
+    → AreNumbered (0 + begun_in r.order) (last_begun_at 0 r.order) more
     → ((j : ℕ) → j ≢ id → IsQuiet j more)
     → ((j : ℕ) (u : Known) → j ≢ id → KnownFits r.seat r.order j u → u.is_keeper ≡ true → IsOthers more)
     → KnownFits r.seat (r.order ++ more) id w
@@ -230,7 +251,7 @@ happened s r id v at more word words w is counts numbered quiet none_more mine =
   order = r.order ++ more;
   words = is;
   counts = counts;
-  numbered = numbered_append 0 r.order more r.numbered numbered;
+  numbered = numbered_append 0 0 r.order more r.numbered numbered;
   unseated = λ j low.
       let bound = at_below s.views id v at in
       let same : length (set s.views id w) ≡ length s.views = length-set s.views id w in
@@ -243,33 +264,40 @@ happened s r id v at more word words w is counts numbered quiet none_more mine =
       longer r.seat r.order more j u (none_more j u apart f) (quiet j apart) f) mine;
 }
 
-pub raises : (moment slots id : ℕ) (me : Me (Unit {0}) Known) (new : ℕ) → me.0.is_keeper ≡ true
-    → me.0.is_spent ≡ false → CountAtMost new me.0.promises
-    → Allows IsTallied slots id me 0 (λ _. new) (λ _. raised moment (step slots 0 new 0 none) me new)
-raises moment slots id me new keeps_it live most s r homes at small =
+pub raises : (moment beats slots id : ℕ) (me : Me (Unit {0}) Known) (new : ℕ) → me.0.is_keeper ≡ true
+    → me.0.is_spent ≡ false → CountAtMost new me.0.promises → (1 ≤ me.0.begun → me.0.beats < beats)
+    → Allows IsTallied slots id me 0 (λ _. new) (λ _. raised moment beats (step slots 0 new 0 none) me new)
+raises moment beats slots id me new keeps_it live most beat s r homes at small =
     let v = me.0 in
     let mine = r.fits id v at in
     let known = mine.kept keeps_it in
-    let p : Promise = record { count = new; moment = moment; write = v.begun } in
+    let p : Promise = record { count = new; moment = moment; write = v.begun; beats = beats } in
     let more : List Event = Promised p ∷ [] in
     let order : List Event = r.order ++ more in
-    let all : one_more v.promises new moment v.begun ≡ promises_in order =
+    let all : one_more v.promises new moment v.begun beats ≡ promises_in order =
     ap (λ l. l ++ p ∷ []) known.1 ∙ sym (promises_append r.order more) in
     let made = known.2 in
-    let w : Known = record v { promises = one_more v.promises new moment v.begun; order = order } in (
+    let since : 1 ≤ 0 + begun_in r.order → last_begun_at 0 r.order < beats =
+    λ some. subst (λ (n : ℕ). n < beats) known.3 (beat (omega (arith, made, some))) in
+    let w : Known = record v { promises = one_more v.promises new moment v.begun beats; order = order } in (
       w,
       keeps,
       tt,
       happened s r id v at more new (slice_set s.words 0 new) w
           (ap (λ l. slice_set l 0 new) r.words ∙ ap (λ n. new ∷ n ∷ []) (same_begun r.order more refl))
-          (All-same (λ q. q.count ≤ new) (promises_in order) (one_more v.promises new moment v.begun) (sym all)
+          (All-same (λ q. q.count ≤ new) (promises_in order) (one_more v.promises new moment v.begun beats) (sym all)
           (All-push (λ q. q.count ≤ new) v.promises p most (omega arith)))
-          (omega (arith, made), tt)
+          (omega (arith, made), since, tt)
           (λ j apart. (refl, refl))
           (λ j u apart f k. absurd (apart ((f.kept k).0 ∙ sym known.0)))
           (record {
-            kept = λ _. (known.0, all, known.2 ∙ same_begun r.order more refl);
-            low = subst (AreAmong (one_more v.promises new moment v.begun)) all (All-contains_itself _);
+            kept = λ _. (
+              known.0,
+              all,
+              known.2 ∙ same_begun r.order more refl,
+              known.3 ∙ same_last r.order more refl,
+            );
+            low = subst (AreAmong (one_more v.promises new moment v.begun beats)) all (All-contains_itself _);
             begins = ([], append-nil order);
             own = λ _. (
               same_comings id v.came r.order more refl (mine.own live).0,
@@ -282,20 +310,20 @@ raises moment slots id me new keeps_it live most s r homes at small =
     )
 
 -- one write more began
-pub writes : (slots id : ℕ) (me : Me (Unit {0}) Known) (new : ℕ) → me.0.is_keeper ≡ true → me.0.is_spent ≡ false
-    → me.0.begun + 1 ≡ new
-    → Allows IsTallied slots id me 1 (λ _. new) (λ _. begun_more (step slots 1 new 0 none) me new)
-writes slots id me new keeps_it live next s r homes at small =
+pub writes : (beats slots id : ℕ) (me : Me (Unit {0}) Known) (new : ℕ) → me.0.is_keeper ≡ true
+    → me.0.is_spent ≡ false → me.0.begun + 1 ≡ new
+    → Allows IsTallied slots id me 1 (λ _. new) (λ _. begun_more beats (step slots 1 new 0 none) me new)
+writes beats slots id me new keeps_it live next s r homes at small =
     let v = me.0 in
     let mine = r.fits id v at in
     let known = mine.kept keeps_it in
     let made = known.2 in
-    let more : List Event = Began ∷ [] in
+    let more : List Event = Began beats ∷ [] in
     let order : List Event = r.order ++ more in
     let whole = begun_append r.order more in
     let now : v.begun + 1 ≡ begun_in order = omega (arith, made, whole) in
     let same = same_promises r.order more refl in
-    let w : Known = record v { order = order; begun = v.begun + 1 } in (
+    let w : Known = record v { order = order; begun = v.begun + 1; beats = beats } in (
       w,
       keeps,
       tt,
@@ -306,7 +334,7 @@ writes slots id me new keeps_it live next s r homes at small =
           (λ j apart. (refl, refl))
           (λ j u apart f k. absurd (apart ((f.kept k).0 ∙ sym known.0)))
           (record {
-            kept = λ _. (known.0, known.1 ∙ same, now);
+            kept = λ _. (known.0, known.1 ∙ same, now, sym (last_append 0 r.order more));
             low = among_longer v.promises r.order more mine.low;
             begins = ([], append-nil order);
             own = λ _. (
@@ -348,7 +376,12 @@ come slots id me live s r homes at small =
           (λ j apart. (came_elsewhere j id apart, refl))
           (λ j u apart f k. (refl, refl))
           (record {
-            kept = λ k. ((mine.kept k).0, (mine.kept k).1 ∙ same, (mine.kept k).2 ∙ still);
+            kept = λ k. (
+              (mine.kept k).0,
+              (mine.kept k).1 ∙ same,
+              (mine.kept k).2 ∙ still,
+              (mine.kept k).3 ∙ same_last r.order more refl,
+            );
             low = low;
             begins = ([], append-nil order);
             own = λ _. (own, same_asks id v.asked r.order more refl (mine.own live).1);
@@ -399,7 +432,7 @@ arrive slots first s r homes small =
         order = order;
         words = r.words ∙ ap (λ n. r.word ∷ n ∷ []) still;
         counts = counts;
-        numbered = numbered_append 0 r.order more r.numbered tt;
+        numbered = numbered_append 0 0 r.order more r.numbered tt;
         unseated = λ j low.
             let more_seats = length-append s.views (w ∷ []) in
             let past : length s.views ≤ j = omega (arith, low, more_seats) in
@@ -457,7 +490,12 @@ ask slots id me live s r homes at small =
           (λ j apart. (refl, asked_elsewhere j id apart))
           (λ j u apart f k. (refl, refl))
           (record {
-            kept = λ k. ((mine.kept k).0, (mine.kept k).1 ∙ same, (mine.kept k).2 ∙ still);
+            kept = λ k. (
+              (mine.kept k).0,
+              (mine.kept k).1 ∙ same,
+              (mine.kept k).2 ∙ still,
+              (mine.kept k).3 ∙ same_last r.order more refl,
+            );
             low = low;
             begins = ([], append-nil order);
             own = λ _. (same_comings id v.came r.order more refl (mine.own live).0, own);
@@ -508,7 +546,7 @@ ask_new slots first s r homes small =
         order = order;
         words = r.words ∙ ap (λ n. r.word ∷ n ∷ []) still;
         counts = counts;
-        numbered = numbered_append 0 r.order more r.numbered tt;
+        numbered = numbered_append 0 0 r.order more r.numbered tt;
         unseated = λ j low.
             let more_seats = length-append s.views (w ∷ []) in
             let past : length s.views ≤ j = omega (arith, low, more_seats) in

@@ -16,13 +16,13 @@ use Rattle.hg_commit.proofs.Keeping.{are_kept, kept_back, kept_on, none_kept}
 module _ {A D : Type 0} (seen : D → List ℕ) (may_leave : D → List ℕ → Type 0) (moment : D → ℕ) (head : Head)
     (stored : List Entry) (first : RepositoryOf A)
   where
-    pub covers : (h : List (Taken A)) (count write : ℕ) (log : Log D) (receipt : List Promise)
+    pub covers : (h : List (Taken A)) (count write beats : ℕ) (log : Log D) (receipt : List Promise)
         → KeepsRecords seen may_leave head stored first h count log
-        → Contains receipt (record { count = count; moment = moment log.device; write = write })
+        → Contains receipt (record { count = count; moment = moment log.device; write = write; beats = beats })
         → Covers seen may_leave moment head stored first h receipt count
-    covers h count write log receipt k has = record {
+    covers h count write beats log receipt k has = record {
       kept = are_kept seen may_leave head stored first h count log k;
-      promise = record { count = count; moment = moment log.device; write = write };
+      promise = record { count = count; moment = moment log.device; write = write; beats = beats };
       has = has;
       counts = omega arith;
       reached = refl;

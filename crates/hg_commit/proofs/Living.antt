@@ -231,12 +231,12 @@ module _ {A D : Type 0} (moment : D → ℕ) (left_since : D → ℕ → List �
         })
 
     -- one of all that is there now
-    pub promise_now : (may_leave : D → List ℕ → Type 0) (h : List (Taken A)) (count write : ℕ) (device : D)
+    pub promise_now : (may_leave : D → List ℕ → Type 0) (h : List (Taken A)) (count write beats : ℕ) (device : D)
         → ((file : List ℕ) → left_since device (moment device) file → may_leave device file)
         → ((file : List ℕ) → may_leave device file → IsFront head stored first h count file)
         → IsKeptSince moment left_since head stored first h count device
-        (record { count = count; moment = moment device; write = write })
-    promise_now may_leave h count write device only_now now = record {
+        (record { count = count; moment = moment device; write = write; beats = beats })
+    promise_now may_leave h count write beats device only_now now = record {
       reached = omega arith;
       few = omega arith;
       left = λ file left. now file (only_now file left);

@@ -52,5 +52,5 @@ pub asked_spent : (v w : Known) (n : ℕ) → AskedAt v n w → w.is_spent ≡ v
 asked_spent v w n t = ap (λ u. u.is_spent) t.is
 
 -- whoever saw the order knows which write each promise was made after
-pub saw_numbered : (v w : Known) → Sees v w → AreNumbered 0 w.order
-saw_numbered v w s = subst (λ (u : Known). AreNumbered 0 u.order) (sym s.is) s.numbered
+pub saw_numbered : (v w : Known) → Sees v w → AreNumbered 0 0 w.order
+saw_numbered v w s = subst (λ (u : Known). AreNumbered 0 0 u.order) (sym s.is) s.numbered

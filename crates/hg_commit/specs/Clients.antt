@@ -5,7 +5,7 @@ use Rattle.hg_types.specs.declared.item.Taken.{Taken}
 use Rattle.hg_store.specs.Entries.{Entry}
 use Rattle.hg_store.specs.declared.head.Head.{Head}
 use Rattle.hg_push.specs.Run.{RepositoryOf}
-use Rattle.hg_commit.specs.Orders.{AreSeen, Comes, HasBeat, HasGrown, no_receipt, ReceiptView}
+use Rattle.hg_commit.specs.Orders.{AreSeen, HasBeat, HasGrown, no_receipt, ReceiptView}
 use Rattle.hg_commit.specs.Promises.{Promise}
 use Rattle.hg_commit.specs.Records.{AreKept}
 
@@ -24,11 +24,6 @@ promised (Some receipt) = receipt
 pub record IsLater {A : Type 0} (before after : KeptSeen A) : Type 0 where
   pub seen : IsPrefix before.history after.history
   pub grows : HasGrown before.receipt after.receipt
-
--- A request of it came, and it has seen what it had: so many records were promised by then.
-abbrev pub HasCome : {A : Type 0} → KeptSeen A → KeptSeen A → Type 0
-HasCome before after =
-    (after.history ≡ before.history) × ((promised : ℕ) × Comes before.receipt after.receipt promised)
 
 -- It has seen what it had. Its receipt has all that it had, and maybe more; no further request of it came.
 pub record IsGranted {A : Type 0} (before after : KeptSeen A) : Type 0 where

@@ -1,5 +1,5 @@
 -- What happens at a tally, in one order: promises are made, requests come, writes begin, and beats are asked for.
-use Rattle.std.specs.Prelude.{ℕ, ◌≡◌, ◌⊎◌, ◌≤◌, ◌+◌, ◌==◌, ⊤, if◌then◌else◌, List, [], ◌∷◌, ◌++◌, All}
+use Rattle.std.specs.Prelude.{ℕ, ◌≡◌, ◌⊎◌, ◌≤◌, ◌<◌, ◌+◌, ◌==◌, ⊤, if◌then◌else◌, List, [], ◌∷◌, ◌++◌, All}
 use Rattle.std.specs.Prelude.{Contains, IfSome, Option}
 use Rattle.std.specs.Coded.{Coded, coded_list, coded⊎, coded_ℕ, code_by}
 use mathlib.Core.List.{IsPrefix}
@@ -7,11 +7,12 @@ use mathlib.Core.Logic.{inl, inr}
 use mathlib.Core.Path.{refl}
 use Rattle.hg_commit.specs.Promises.{Promise, promise_coded}
 
--- a promise was made, a request came to this seat, a write began, or a beat was asked for at this seat
+-- A promise was made, a request came to this seat, a write began as the device had had so many beats, or a beat was asked
+-- for at this seat.
 pub data Event : Type 0 where
   Promised : Promise → Event
   Came : ℕ → Event
-  Began : Event
+  Began : ℕ → Event
   Asked : ℕ → Event
 
 -- the promises, as they were made
@@ -19,7 +20,7 @@ abbrev pub promises_in : List Event → List Promise
 promises_in [] = []
 promises_in (Promised promise ∷ later) = promise ∷ promises_in later
 promises_in (Came seat ∷ later) = promises_in later
-promises_in (Began ∷ later) = promises_in later
+promises_in (Began beats ∷ later) = promises_in later
 promises_in (Asked seat ∷ later) = promises_in later
 
 -- how many requests came to that seat
@@ -27,7 +28,7 @@ abbrev pub comings_to : ℕ → List Event → ℕ
 comings_to seat [] = 0
 comings_to seat (Promised promise ∷ later) = comings_to seat later
 comings_to seat (Came at ∷ later) = (if at == seat then 1 else 0) + comings_to seat later
-comings_to seat (Began ∷ later) = comings_to seat later
+comings_to seat (Began beats ∷ later) = comings_to seat later
 comings_to seat (Asked at ∷ later) = comings_to seat later
 
 -- how many beats were asked for at that seat
@@ -35,7 +36,7 @@ abbrev pub asks_at : ℕ → List Event → ℕ
 asks_at seat [] = 0
 asks_at seat (Promised promise ∷ later) = asks_at seat later
 asks_at seat (Came at ∷ later) = asks_at seat later
-asks_at seat (Began ∷ later) = asks_at seat later
+asks_at seat (Began beats ∷ later) = asks_at seat later
 asks_at seat (Asked at ∷ later) = (if at == seat then 1 else 0) + asks_at seat later
 
 -- how many writes began
@@ -43,16 +44,26 @@ abbrev pub begun_in : List Event → ℕ
 begun_in [] = 0
 begun_in (Promised promise ∷ later) = begun_in later
 begun_in (Came seat ∷ later) = begun_in later
-begun_in (Began ∷ later) = 1 + begun_in later
+begun_in (Began beats ∷ later) = 1 + begun_in later
 begun_in (Asked seat ∷ later) = begun_in later
 
--- As so many writes had begun before: each promise says how many had begun when it was made.
-abbrev pub AreNumbered : ℕ → List Event → Type 0
-AreNumbered begun [] = ⊤
-AreNumbered begun (Promised promise ∷ later) = (promise.write ≡ begun) × AreNumbered begun later
-AreNumbered begun (Came seat ∷ later) = AreNumbered begun later
-AreNumbered begun (Began ∷ later) = AreNumbered (begun + 1) later
-AreNumbered begun (Asked seat ∷ later) = AreNumbered begun later
+-- how many beats the device had had as the last write of these began; where none did, so many
+abbrev pub last_begun_at : ℕ → List Event → ℕ
+last_begun_at beats [] = beats
+last_begun_at beats (Promised promise ∷ later) = last_begun_at beats later
+last_begun_at beats (Came seat ∷ later) = last_begun_at beats later
+last_begun_at beats (Began at ∷ later) = last_begun_at at later
+last_begun_at beats (Asked seat ∷ later) = last_begun_at beats later
+
+-- As so many writes had begun before, the last of them when the device had had so many beats: each promise says how many
+-- had begun when it was made. And where one had, the device has had a beat since the last one began.
+abbrev pub AreNumbered : ℕ → ℕ → List Event → Type 0
+AreNumbered begun beats [] = ⊤
+AreNumbered begun beats (Promised promise ∷ later) =
+    (promise.write ≡ begun) × (1 ≤ begun → beats < promise.beats) × AreNumbered begun beats later
+AreNumbered begun beats (Came seat ∷ later) = AreNumbered begun beats later
+AreNumbered begun beats (Began at ∷ later) = AreNumbered (begun + 1) at later
+AreNumbered begun beats (Asked seat ∷ later) = AreNumbered begun beats later
 
 -- A client's receipt: its promises, what it has seen of the one order, how many requests of it came, and how many beats
 -- it asked for.
@@ -105,18 +116,22 @@ pub record Asks (before after : ReceiptView) (begun : ℕ) : Type 0 where
 abbrev pub HasAskedFor : ReceiptView → ReceiptView → Option ℕ → Type 0
 HasAskedFor before after awaited = IfSome awaited (λ write. (begun : ℕ) × (write ≡ begun + 1) × Asks before after begun)
 
--- Behind all that a client had seen it asked for a beat, as the last of its asks; a write began after that; and what
--- was promised after that write had begun is a promise of the client, of so many records or more.
+-- Behind all that a client had seen it asked for a beat, as the last of its asks; a write began after that; and behind that
+-- begin, as the last one, was made what is a promise of the client, of so many records or more. Between these two the device
+-- had a beat.
 pub record HasBeat (before after : ReceiptView) (rests : ℕ) : Type 0 where
   pub asked : ReceiptView
   pub begun : ℕ
   pub asks : Asks before asked begun
   pub one : after.asked ≡ asked.asked
   pub between : List Event
+  pub beats : ℕ
+  pub behind : List Event
   pub promise : Promise
   pub later : List Event
-  pub order : after.order ≡ asked.order ++ (between ++ Promised promise ∷ later)
-  pub began : 1 ≤ begun_in between
+  pub order : after.order ≡ asked.order ++ (between ++ Began beats ∷ (behind ++ Promised promise ∷ later))
+  pub last : begun_in behind ≡ 0
+  pub beat : beats < promise.beats
   pub has : Contains after.promises promise
   pub counts : rests ≤ promise.count
 
@@ -125,19 +140,19 @@ pub record HasBeat (before after : ReceiptView) (rests : ℕ) : Type 0 where
 abbrev pub parts_of : Event → (Promise ⊎ ℕ) ⊎ (ℕ ⊎ ℕ)
 parts_of (Promised promise) = inl (inl promise)
 parts_of (Came seat) = inl (inr seat)
-parts_of Began = inr (inl 0)
+parts_of (Began beats) = inr (inl beats)
 parts_of (Asked seat) = inr (inr seat)
 
 abbrev pub event_of : (Promise ⊎ ℕ) ⊎ (ℕ ⊎ ℕ) → Event
 event_of (inl (inl promise)) = Promised promise
 event_of (inl (inr seat)) = Came seat
-event_of (inr (inl number)) = Began
+event_of (inr (inl beats)) = Began beats
 event_of (inr (inr seat)) = Asked seat
 
 pub event_again : (e : Event) → event_of (parts_of e) ≡ e
 event_again (Promised promise) = refl
 event_again (Came seat) = refl
-event_again Began = refl
+event_again (Began beats) = refl
 event_again (Asked seat) = refl
 
 -- a struct may have a list of events as a ghost field

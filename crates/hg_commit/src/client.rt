@@ -59,7 +59,7 @@ impl<J: Storing<A>, A: Allocator> KeptClient<J, A> {
         ensures came { self.new.receipt.came ≡ self.old.receipt.came }
         ensures asked { self.new.receipt.asked ≡ self.old.receipt.asked }
         ensures seen { AreSeen self.new.receipt }
-        ensures numbered { AreNumbered 0 self.new.receipt.order }
+        ensures numbered { AreNumbered 0 0 self.new.receipt.order }
     {
         let held = self.receipt.take();
         self.receipt = Some(tally.join(held, grant));

@@ -11,6 +11,7 @@ ghost use Rattle.hg_store.specs.Log.{IsSettled};
 ghost use Rattle.hg_commit.specs.Clients.{AreWritten, Covers};
 ghost use Rattle.hg_commit.specs.Handing.{Fits, IsFull, record_bytes};
 ghost use Rattle.hg_commit.specs.Lives.{IsFront, IsKeptSince, Lives};
+ghost use Rattle.hg_commit.specs.Promises.{SayAtMost};
 ghost use Rattle.hg_commit.specs.Records.{IsRecordOf, KeepsRecords};
 
 use crate::laws::records_stay;
@@ -39,8 +40,9 @@ const FRAME: usize = 34;
 /// with how many bytes more are left to it. The records and the batch are, in order, the bundles of the first pushes
 /// of the journal that the witness has seen. Writes are numbered as they begin: how many began, and the number of the
 /// last one that made a promise. Each promise of the tally is kept, and unless it is broken the keeper has one of all
-/// these records, at this moment, made as that write had begun. After a write or a sync that failed the device is not
-/// called again.
+/// these records, at this moment, made as that write had begun. What the keeper says of beats is then no more than the
+/// device has had, so a further one is behind the last begin. After a write or a sync that failed the device is not called
+/// again.
 pub struct Disk<J: Storing<A>, D: Device, A: Allocator = Global> {
     log: Log<D>,
     count: usize,
@@ -54,10 +56,11 @@ pub struct Disk<J: Storing<A>, D: Device, A: Allocator = Global> {
 }
 
 impl<J: Storing<A>, D: Device, A: Allocator> Model for Disk<J, D, A> {
-    ghost use Rattle.std.specs.Prelude.{◌≡◌, ◌-◌, false, All, Contains, vec_len, vec_capacity};
+    ghost use Rattle.std.specs.Prelude.{◌≡◌, ◌≤◌, ◌-◌, false, All, Contains, vec_len, vec_capacity};
     ghost use Rattle.hg_commit.specs.Handing.{batch_bytes};
     ghost use Rattle.hg_commit.specs.Lives.{IsKeptSince, Lives};
     ghost use Rattle.hg_commit.specs.Locks.{DiskView};
+    ghost use Rattle.hg_commit.specs.Promises.{SayAtMost};
     ghost use Rattle.hg_commit.specs.Records.{AreRecordsFrom, KeepsRecords};
     ghost use Rattle.hg_commit.specs.declared.disk.TheConstants.{BATCH_BYTES};
     ghost use Rattle.hg_types.specs.Limits.{IsAllowed};
@@ -84,9 +87,11 @@ impl<J: Storing<A>, D: Device, A: Allocator> Model for Disk<J, D, A> {
         × All (IsKeptSince D.moment D.left_since J.head J.stored J.first d.witness d.count d.log.device) d.keeper.promises
         × (d.is_broken ≡ false →
         Contains d.keeper.promises
-        (record { count = d.count; moment = D.moment d.log.device; write = d.ended }))
+        (record { count = d.count; moment = D.moment d.log.device; write = d.ended; beats = D.beats d.log.device }))
         × (d.left ≡ BATCH_BYTES - batch_bytes d.batch.items)
-        × (d.begun ≡ d.keeper.begun) };
+        × (d.begun ≡ d.keeper.begun)
+        × (d.is_broken ≡ false → 1 ≤ d.keeper.begun → d.keeper.beats ≤ D.beats d.log.device)
+        × (d.is_broken ≡ false → SayAtMost (D.beats d.log.device) d.keeper.promises) };
 }
 
 impl<J: Storing<A>, D: Device, A: Allocator + Copy> Disk<J, D, A> {
@@ -100,10 +105,9 @@ impl<J: Storing<A>, D: Device, A: Allocator + Copy> Disk<J, D, A> {
         requires settled { IsSettled D.seen D.may_leave J.head J.stored log }
         requires opened { J.opened ≡ D.moment log.device }
         requires allowed { IsAllowed J.first.settings.limits }
-        requires nothing { keeper ≡ record {
-          promises = record { count = 0; moment = D.moment log.device; write = 0 } ∷ [];
-          begun = 0;
-        } }
+        requires promised { keeper.promises
+            ≡ record { count = 0; moment = D.moment log.device; write = 0; beats = D.beats log.device } ∷ [] }
+        requires begun { keeper.begun ≡ 0 }
         ensures made { IfOk result (λ disk. (disk.device ≡ log.device) × (disk.count ≡ 0) × (disk.batch ≡ [])
             × (disk.is_broken ≡ false) × (disk.history ≡ witness) × (disk.begun ≡ 0) × (disk.ended ≡ 0)) }
         ensures refused { IfErr result (λ back. back ≡ (log, witness, keeper)) }
@@ -163,7 +167,7 @@ impl<J: Storing<A>, D: Device, A: Allocator + Copy> Disk<J, D, A> {
     {
         match self.begun.checked_add(1) {
             Some(number) => {
-                tally.begin_write(&mut self.keeper, number);
+                tally.begin_write(&mut self.keeper, number, &self.log);
                 self.begun = number;
             }
             None => self.is_broken = true,
@@ -343,6 +347,7 @@ impl<J: Storing<A>, D: Device, A: Allocator + Copy> Disk<J, D, A> {
         ensures history { result.3 ≡ self.history }
         ensures keeper { All (IsKeptSince D.moment D.left_since J.head J.stored J.first result.3 result.1
             result.0.device) result.4.promises }
+        ensures beats { result.2 ≡ false → SayAtMost (D.beats result.0.device) result.4.promises }
     {
         let Disk {
             log,

@@ -23,6 +23,8 @@ pub struct Known {
     pub ghost asked: { ℕ },
     /// How many writes began. The keeper alone knows it.
     pub ghost begun: { ℕ },
+    /// How many beats the device had had as the last of these writes began. The keeper alone knows it.
+    pub ghost beats: { ℕ },
     /// The promises that it heard of from another seat.
     pub ghost heard: { List Promise } by { promises_coded },
     /// What it heard that this one has seen.

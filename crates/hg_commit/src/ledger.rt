@@ -7,6 +7,7 @@ ghost use Rattle.hg_store.specs.Log.{IsSettled};
 ghost use Rattle.hg_commit.specs.Clients.{AreWritten, Covers, IsCovered, IsGranted};
 ghost use Rattle.hg_commit.specs.Lives.{IsKeptSince, Lives};
 ghost use Rattle.hg_commit.specs.Orders.{Comes, HasAskedFor, HasBeat, HasGrown, ReceiptView};
+ghost use Rattle.hg_commit.specs.Promises.{SayAtMost};
 ghost use Rattle.hg_commit.specs.Receipts.{IsTallyOf};
 ghost use Rattle.hg_commit.specs.Records.{IsRecordOf, KeepsRecords, done_in};
 
@@ -132,7 +133,7 @@ impl<J: Storing<A>, D: Device, A: Allocator + Copy> Ledger<J, D, A> {
         ensures failed { IfErr result (λ back. IsGranted client back.0) }
 
         // With beats it stands on a write that began after the call and so after all that the client had seen, as that
-        // its request came. And the write ended well.
+        // its request came. And since that begin the device had a beat: a write and a sync of it answered Ok.
         ensures beat { self.now.has_beats ≡ true →
             IfOk result (λ kept. HasBeat client.receipt kept.client.receipt rests) }
     {
@@ -201,7 +202,8 @@ impl<J: Storing<A>, D: Device, A: Allocator + Copy> Ledger<J, D, A> {
             rests) }
 
         // With beats it stands on a write that began after the call and so after all that the client had seen, as that
-        // its request came, and what it had looked at. And the write ended well.
+        // its request came, and what it had looked at. And since that begin the device had a beat: a write and a sync of
+        // it answered Ok.
         ensures beat { self.now.has_beats ≡ true →
             IfOk result (λ _. HasBeat client.old.receipt client.new.receipt rests) }
     {
@@ -311,7 +313,8 @@ impl<J: Storing<A>, D: Device, A: Allocator + Copy> Ledger<J, D, A> {
 
     /// The log, and what is known of it. **Whatever an end might have left at any moment of the ledger's life is a
     /// front of the journal**, also where a write or a sync failed; and what one leaves from now on has each record
-    /// that was brought to the device. **Each promise is kept since its moment.**
+    /// that was brought to the device. **Each promise is kept since its moment.** And unless a write or a sync failed, no
+    /// promise says that the device had had more beats than it has.
     pub fn into_parts(self) -> Parts<J, D, A>
         ensures kept { result.is_broken ≡ false →
             KeepsRecords D.seen D.may_leave J.head J.stored J.first result.witnesses.0 result.kept result.log }
@@ -320,6 +323,7 @@ impl<J: Storing<A>, D: Device, A: Allocator + Copy> Ledger<J, D, A> {
         ensures tally { result.tally.id ≡ J.tally }
         ensures promises { All (IsKeptSince D.moment D.left_since J.head J.stored J.first
             result.witnesses.0 result.kept result.log.device) result.tally.promises }
+        ensures beats { result.is_broken ≡ false → SayAtMost (D.beats result.log.device) result.tally.promises }
     {
         let Ledger {
             waiting,

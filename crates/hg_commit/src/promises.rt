@@ -4,10 +4,11 @@
 //! A tally is a list of promises that only grows. One seat at it, the keeper, knows all of them and makes more. A
 //! receipt is a seat that knows some. The requests of clients come to their seats, and beats are asked for there. The
 //! keeper also begins writes. All promises, requests, asks and begins of writes have one order: that in which two words
-//! of memory were written and read. Each seat has seen a front of it. None of this is there when the program runs,
-//! except these words: how many records were promised, and how many writes began. The contracts know the rest.
+//! of memory were written and read. Each seat has seen a front of it. A begin of a write and a promise say how many beats
+//! the device had had then, so that the order has where one was. None of this is there when the program runs, except
+//! these words: how many records were promised, and how many writes began. The contracts know the rest.
 
-ghost use Rattle.std.specs.Prelude.{◌≡◌, ◌+◌, ◌^◌, ◌++◌, ◌∷◌, [], All, Contains, IfOk};
+ghost use Rattle.std.specs.Prelude.{◌≡◌, ◌≤◌, ◌<◌, ◌+◌, ◌^◌, ◌++◌, ◌∷◌, [], All, Contains, IfOk};
 ghost use mathlib.Core.List.{IsPrefix};
 ghost use Rattle.hg_commit.specs.Clients.{promised};
 ghost use Rattle.hg_commit.specs.Orders.{AreNumbered, AreSeen, Asks, Comes, HasGrown, no_receipt};
@@ -24,15 +25,19 @@ use std::alloc::{Allocator, Global};
 use std::marker::{Brand, Model, PhantomData};
 use std::sync::ledger::Blank;
 
-/// A moment of a device, which a call picks.
+/// A moment of a device, and how many beats this had had by then, which a call picks.
 pub trait Moment {
     ghost use Rattle.std.specs.Prelude.{ℕ};
 
     ghost moment: { ℕ };
+
+    ghost beats: { ℕ };
 }
 
 impl Moment for Brand {
     ghost moment = { 0 };
+
+    ghost beats = { 0 };
 }
 
 /// The rule of a tally.
@@ -54,16 +59,18 @@ struct Raises<M> {
 impl<M: Moment> Play<(), Known> for Raises<M> {
     ghost use Rattle.hg_commit.specs.code.Tallies.{raised};
 
-    ghost then = { raised M.moment };
+    ghost then = { raised M.moment M.beats };
 }
 
 /// The keeper begins a write more.
-struct Begins;
+struct Begins<M> {
+    moment: PhantomData<M>,
+}
 
-impl Play<(), Known> for Begins {
+impl<M: Moment> Play<(), Known> for Begins<M> {
     ghost use Rattle.hg_commit.specs.code.Tallies.{begun_more};
 
-    ghost then = { begun_more };
+    ghost then = { begun_more M.beats };
 }
 
 /// A seat is made that knows what another knows, but is no keeper.
@@ -202,7 +209,7 @@ impl<J: Storing<A>, A: Allocator> Model for OpenTally<J, A> {
 }
 
 /// The right to make promises at the tally of that name, and to begin writes. Contracts see all promises that were
-/// made, and how many writes began.
+/// made, how many writes began, and how many beats the device had had as the last of them did.
 #[derive(Drop)]
 pub struct Keeper<J: Storing<A>, A: Allocator = Global> {
     seat: Seat<(), Known>,
@@ -230,7 +237,11 @@ impl<J: Storing<A>, A: Allocator> Model for Keeper<J, A> {
 
     ghost Value = { KeeperView };
 
-    ghost view = { λ k. record { promises = k.seat.me.0.promises; begun = k.seat.me.0.begun } };
+    ghost view = { λ k. record {
+      promises = k.seat.me.0.promises;
+      begun = k.seat.me.0.begun;
+      beats = k.seat.me.0.beats;
+    } };
 
     ghost invariant = { λ k. IsKeeperAt J.tally k.seat };
 }
@@ -274,7 +285,7 @@ impl<A: Allocator> Promises<A> {
     /// The tally of that name, for threads, the right to make promises, and by what rooms are counted.
     pub(crate) fn open<J: Storing<A>>(self) -> (OpenTally<J, A>, Keeper<J, A>, Blank)
         requires { IsTallyOf J.tally J.name J.parts self }
-        ensures promises { result.1 ≡ record { promises = self.promises; begun = self.begun } }
+        ensures promises { (result.1.promises ≡ self.promises) × (result.1.begun ≡ self.begun) }
         ensures rooms { (result.2.name ≡ J.name) × (result.2.parts ≡ J.parts) × (result.2.parts ≡ 2 ^ 62) }
     {
         let Promises {
@@ -324,22 +335,22 @@ impl<J: Storing<A>, A: Allocator> OpenTally<J, A> {
         }
     }
 
-    /// Promises that so many records are on the device of this log, at its moment now. No promise before counts more.
+    /// Promises that so many records are on the device of this log, at its moment now. No promise before counts more. And
+    /// where a write began, the device has had a beat since the last one did.
     pub fn raise<D: Device>(&self, keeper: &mut Keeper<J, A>, count: usize, log: &Log<D>)
-        requires { CountAtMost count keeper.old.promises }
-        ensures { keeper.new ≡ raised_to keeper.old count (D.moment log.now.device) }
+        requires most { CountAtMost count keeper.old.promises }
+        requires beat { 1 ≤ keeper.old.begun → keeper.old.beats < D.beats log.now.device }
+        ensures { keeper.new ≡ raised_to keeper.old count (D.moment log.now.device) (D.beats log.now.device) }
     {
         raise_at::<Brand, J, D, A>(self, keeper, count, log);
     }
 
-    /// A write of that number begins.
-    pub fn begin_write(&self, keeper: &mut Keeper<J, A>, number: u64)
+    /// A write of that number begins, to the device of this log, with as many beats as it has had.
+    pub fn begin_write<D: Device>(&self, keeper: &mut Keeper<J, A>, number: u64, log: &Log<D>)
         requires { keeper.old.begun + 1 ≡ number }
-        ensures { keeper.new ≡ record keeper.old { begun = number } }
+        ensures { keeper.new ≡ record keeper.old { begun = number; beats = D.beats log.now.device } }
     {
-        self.table
-            .shared
-            .store::<Begins>(&mut keeper.seat, 1, number);
+        begin_at::<Brand, J, D, A>(self, keeper, number, log);
     }
 
     /// A grant of all that was promised.
@@ -373,7 +384,7 @@ impl<J: Storing<A>, A: Allocator> OpenTally<J, A> {
         ensures came { result.came ≡ (promised receipt).came }
         ensures asked { result.asked ≡ (promised receipt).asked }
         ensures seen { AreSeen result }
-        ensures numbered { AreNumbered 0 result.order }
+        ensures numbered { AreNumbered 0 0 result.order }
     {
         match receipt {
             Some(receipt) => self.unite(receipt, grant),
@@ -385,7 +396,7 @@ impl<J: Storing<A>, A: Allocator> OpenTally<J, A> {
         ensures all { result.promises ≡ grant }
         ensures none { (result.came ≡ 0) × (result.asked ≡ 0) }
         ensures seen { AreSeen result }
-        ensures numbered { AreNumbered 0 result.order }
+        ensures numbered { AreNumbered 0 0 result.order }
     {
         let mut seat = grant.seat;
         self.table.shared.load::<Looks>(&mut seat, 0);
@@ -401,7 +412,7 @@ impl<J: Storing<A>, A: Allocator> OpenTally<J, A> {
         ensures came { result.came ≡ receipt.came }
         ensures asked { result.asked ≡ receipt.asked }
         ensures seen { AreSeen result }
-        ensures numbered { AreNumbered 0 result.order }
+        ensures numbered { AreNumbered 0 0 result.order }
     {
         let mut seat = receipt.seat;
         self.table.shared.join_seat::<Unites>(&mut seat, grant.seat);
@@ -481,7 +492,7 @@ impl<J: Storing<A>, A: Allocator> OpenTally<J, A> {
     }
 }
 
-/// The same, at a moment that the call names.
+/// A promise as `OpenTally::raise` makes it, at a moment that the call names.
 fn raise_at<M: Moment, J: Storing<A>, D: Device, A: Allocator>(
     tally: &OpenTally<J, A>,
     keeper: &mut Keeper<J, A>,
@@ -489,12 +500,32 @@ fn raise_at<M: Moment, J: Storing<A>, D: Device, A: Allocator>(
     log: &Log<D>,
 )
     requires moment { M.moment ≡ D.moment log.now.device }
+    requires beats { M.beats ≡ D.beats log.now.device }
     requires most { CountAtMost count keeper.old.promises }
-    ensures { keeper.new ≡ raised_to keeper.old count (D.moment log.now.device) }
+    requires beat { 1 ≤ keeper.old.begun → keeper.old.beats < D.beats log.now.device }
+    ensures { keeper.new ≡ raised_to keeper.old count (D.moment log.now.device) (D.beats log.now.device) }
 {
     let _log = log;
     tally
         .table
         .shared
         .store::<Raises<M>>(&mut keeper.seat, 0, count as u64);
+}
+
+/// A write begins as by `OpenTally::begin_write`, at a moment that the call names.
+fn begin_at<M: Moment, J: Storing<A>, D: Device, A: Allocator>(
+    tally: &OpenTally<J, A>,
+    keeper: &mut Keeper<J, A>,
+    number: u64,
+    log: &Log<D>,
+)
+    requires beats { M.beats ≡ D.beats log.now.device }
+    requires next { keeper.old.begun + 1 ≡ number }
+    ensures { keeper.new ≡ record keeper.old { begun = number; beats = D.beats log.now.device } }
+{
+    let _log = log;
+    tally
+        .table
+        .shared
+        .store::<Begins<M>>(&mut keeper.seat, 1, number);
 }

@@ -1,5 +1,5 @@
 -- Servers one after the other over one store, each opened from what the one before it had left.
-use Rattle.std.specs.Prelude.{ℕ, ◌≡◌, ◌≤◌, ◌<◌, ◌+◌, ◌==◌, ⊤, Bool, if◌then◌else◌, List, [], ◌∷◌, ◌++◌, All, length, Contains}
+use Rattle.std.specs.Prelude.{ℕ, ◌≡◌, ◌≤◌, ◌<◌, ◌==◌, ⊤, Bool, if◌then◌else◌, List, [], ◌∷◌, ◌++◌, All, length, Contains}
 use mathlib.Core.List.{IsPrefix}
 use Rattle.hg_types.specs.declared.item.Taken.{Taken}
 use Rattle.hg_store.specs.Entries.{Entry}
@@ -9,7 +9,7 @@ use Rattle.hg_push.specs.Places.{IsPlace}
 use Rattle.hg_push.specs.Run.{RepositoryOf, run_push}
 use Rattle.hg_serve.specs.Histories.{newest_first}
 use Rattle.hg_commit.specs.Clients.{KeptSeen}
-use Rattle.hg_commit.specs.Orders.{begun_in, Came, Event, Promised, ReceiptView}
+use Rattle.hg_commit.specs.Orders.{Asked, Began, Came, Event, Promised, ReceiptView}
 use Rattle.hg_commit.specs.Promises.{Promise}
 use Rattle.hg_durable.specs.Closing.{ClosesKept}
 use Rattle.hg_recovery.specs.Opening.{IsRecovered}
@@ -86,12 +86,10 @@ EachHasAllBefore head s (next ∷ others) =
 
 -- ---- what happened at all of them, in one order
 
--- The server of that number opened the store; something happened at its tally; or a write of it ended well: its calls,
--- of which a sync is the last, answered Ok.
+-- the server of that number opened the store, or something happened at its tally
 pub data Happening : Type 0 where
   Opened : ℕ → Happening
   Tallied : ℕ → Event → Happening
-  Wrote : ℕ → Happening
 
 -- what happened at the tally of that server
 abbrev pub order_of : ℕ → List Happening → List Event
@@ -99,28 +97,24 @@ order_of number [] = []
 order_of number (Opened at ∷ later) = order_of number later
 order_of number (Tallied at event ∷ later) =
     (if at == number then event ∷ [] else []) ++ order_of number later
-order_of number (Wrote at ∷ later) = order_of number later
+
+-- how many beats the device of a tally had had, each time that a write to it began or a promise was made
+abbrev pub beats_said : List Event → List ℕ
+beats_said [] = []
+beats_said (Promised promise ∷ later) = promise.beats ∷ beats_said later
+beats_said (Came seat ∷ later) = beats_said later
+beats_said (Began beats ∷ later) = beats ∷ beats_said later
+beats_said (Asked seat ∷ later) = beats_said later
 
 -- the server of that number opened the store between these
 abbrev pub OpensBetween : List Happening → ℕ → List Happening → List Happening → Type 0
 OpensBetween early number late all = all ≡ early ++ Opened number ∷ late
 
--- **The premise of the holder.** Once a later server has opened the store, no write of an earlier one ends well.
+-- **The premise of the holder.** Once a later server has opened the store, no write of an earlier one ends well. So its
+-- device has no beat more: whatever happens at its tally from then on says as many.
 abbrev pub HoldsAlone : List Happening → Type 0
 HoldsAlone all = (early late : List Happening) (number other : ℕ) → OpensBetween early number late all →
-    other < number → ¬ (Contains late (Wrote other))
-
--- A promise stands behind the end of the write that began last before it, if one had begun: no other began since then.
-pub record IsMadeBehind (number : ℕ) (early : List Happening) : Type 0 where
-  pub before : List Happening
-  pub behind : List Happening
-  pub spelled : early ≡ before ++ Wrote number ∷ behind
-  pub last : begun_in (order_of number behind) ≡ 0
-
--- each promise of each server is made so
-abbrev pub PromisesBehindWrites : List Happening → Type 0
-PromisesBehindWrites all = (early late : List Happening) (number : ℕ) (p : Promise) →
-    all ≡ early ++ Tallied number (Promised p) ∷ late → 1 ≤ begun_in (order_of number early) → IsMadeBehind number early
+    other < number → (beats : ℕ) × All (λ said. said ≡ beats) (beats_said (order_of other late))
 
 -- nothing happens at the tally of a server before it has opened the store
 abbrev pub OpensFirst : List Happening → Type 0

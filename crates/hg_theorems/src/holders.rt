@@ -7,8 +7,7 @@ ghost use Rattle.hg_commit.specs.Orders.{Comes, HasBeat, ReceiptView};
 ghost use Rattle.hg_commit.specs.Promises.{Promise};
 ghost use Rattle.hg_recovery.specs.Opening.{IsRecovered};
 ghost use Rattle.hg_theorems.specs.Holders.{AreInARow, CameBehind, EachHasAllBefore, Happening, HasAllOf, HasServed};
-ghost use Rattle.hg_theorems.specs.Holders.{HoldsAlone, OpensBetween, OpensFirst, order_of};
-ghost use Rattle.hg_theorems.specs.Holders.{PromisesBehindWrites, Server, TakesOver};
+ghost use Rattle.hg_theorems.specs.Holders.{HoldsAlone, OpensBetween, OpensFirst, order_of, Server, TakesOver};
 
 use crate::recovery::{fronts_are_recovered, what_a_client_saw_done_is_recovered};
 use hg_recovery::laws::{a_front_of_records_runs, records_lead_to_one_repository};
@@ -48,8 +47,8 @@ pub fn servers_in_a_row_have_what_was_answered<A: Allocator, D: Device>()
 /// for the beat, and so that its request had come, had happened before any later server opened the store.
 pub fn a_beat_is_asked_for_before_the_next_server_opens()
     ensures { (all : List Happening) (number later : ℕ) (before after : ReceiptView) (rests : ℕ)
-        (early late : List Happening) → HoldsAlone all → PromisesBehindWrites all →
-        IsPrefix after.order (order_of number all) → (beat : HasBeat before after rests) →
+        (early late : List Happening) → HoldsAlone all → IsPrefix after.order (order_of number all) →
+        (beat : HasBeat before after rests) →
         OpensBetween early later late all → number < later → IsPrefix beat.asked.order (order_of number early) }
 {}
 
@@ -58,8 +57,8 @@ pub fn a_beat_is_asked_for_before_the_next_server_opens()
 /// promised, or more, as the request came; of an earlier one all is in its first repository.
 pub fn no_request_comes_behind_a_later_server()
     ensures earlier { (all : List Happening) (number other : ℕ) (promise : Promise) (asked after : ReceiptView)
-        (rests : ℕ) → HoldsAlone all → PromisesBehindWrites all → OpensFirst all →
-        IsPrefix after.order (order_of number all) → CameBehind all other promise number asked →
+        (rests : ℕ) → HoldsAlone all → OpensFirst all → IsPrefix after.order (order_of number all) →
+        CameBehind all other promise number asked →
         HasBeat asked after rests → other ≤ number }
     ensures same { (all : List Happening) (number : ℕ) (promise : Promise) (before asked : ReceiptView) (count : ℕ) →
         CameBehind all number promise number asked → Comes before asked count → promise.count ≤ count }

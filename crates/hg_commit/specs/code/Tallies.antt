@@ -7,7 +7,8 @@ use Rattle.atomic_table.specs.Table.{State, Me, Step}
 use Rattle.atomic_table.specs.Seated.{TableId}
 use Rattle.atomic_table.specs.declared.shared.Seat.{Seat}
 use Rattle.hg_commit.specs.declared.known.Known.{Known}
-use Rattle.hg_commit.specs.Orders.{AreNumbered, Asked, asks_at, begun_in, Came, comings_to, Event, promises_in, ReceiptView}
+use Rattle.hg_commit.specs.Orders.{AreNumbered, Asked, asks_at, begun_in, Came, comings_to, Event, last_begun_at}
+use Rattle.hg_commit.specs.Orders.{promises_in, ReceiptView}
 use Rattle.hg_commit.specs.Promises.{KeeperView, Promise}
 
 -- each promise of the first list is one of the second
@@ -28,6 +29,7 @@ keeper = record {
   came = 0;
   asked = 0;
   begun = 0;
+  beats = 0;
   heard = [];
   heard_order = [];
 }
@@ -42,6 +44,7 @@ seat_with promises = record {
   came = 0;
   asked = 0;
   begun = 0;
+  beats = 0;
   heard = [];
   heard_order = [];
 }
@@ -56,15 +59,17 @@ spent = record {
   came = 0;
   asked = 0;
   begun = 0;
+  beats = 0;
   heard = [];
   heard_order = [];
 }
 
--- What one seat knows, by the one order and by the seat of the keeper: the keeper knows all promises, and how many
--- writes began. What a seat has seen begins the order, and the comings to it and the asks at it are its own. Whatever
--- it knows or heard of was promised.
+-- What one seat knows, by the one order and by the seat of the keeper: the keeper knows all promises, how many writes
+-- began, and how many beats the device had had as the last one did. What a seat has seen begins the order, and the
+-- comings to it and the asks at it are its own. Whatever it knows or heard of was promised.
 pub record KnownFits (seat : ℕ) (order : List Event) (at : ℕ) (v : Known) : Type 0 where
   pub kept : v.is_keeper ≡ true → (at ≡ seat) × (v.promises ≡ promises_in order) × (v.begun ≡ begun_in order)
+      × (v.beats ≡ last_begun_at 0 order)
   pub low : AreAmong v.promises (promises_in order)
   pub begins : IsPrefix v.order order
   pub own : v.is_spent ≡ false → (comings_to at order ≡ v.came) × (asks_at at order ≡ v.asked)
@@ -80,29 +85,32 @@ pub record IsTallied (s : State (Unit {0}) Known) : Type 0 where
   pub order : List Event
   pub words : s.words ≡ word ∷ begun_in order ∷ []
   pub counts : CountAtMost word (promises_in order)
-  pub numbered : AreNumbered 0 order
+  pub numbered : AreNumbered 0 0 order
   pub unseated : (at : ℕ) → length s.views ≤ at → (comings_to at order ≡ 0) × (asks_at at order ≡ 0)
   pub fits : (at : ℕ) (v : Known) → get_elem? s.views at ≡ some v → KnownFits seat order at v
 
--- the promises, and one more: of so many records, at that moment, as so many writes had begun
-abbrev pub one_more : List Promise → ℕ → ℕ → ℕ → List Promise
-one_more promises count moment write = promises ++ record { count = count; moment = moment; write = write } ∷ []
+-- the promises, and one more: of so many records, at that moment, as so many writes had begun, and the device had had so
+-- many beats
+abbrev pub one_more : List Promise → ℕ → ℕ → ℕ → ℕ → List Promise
+one_more promises count moment write beats =
+    promises ++ record { count = count; moment = moment; write = write; beats = beats } ∷ []
 
 -- a keeper with one promise more, made as so many writes had begun
-abbrev pub raised_to : KeeperView → ℕ → ℕ → KeeperView
-raised_to keeper count moment = record keeper { promises = one_more keeper.promises count moment keeper.begun }
+abbrev pub raised_to : KeeperView → ℕ → ℕ → ℕ → KeeperView
+raised_to keeper count moment beats =
+    record keeper { promises = one_more keeper.promises count moment keeper.begun beats }
 
--- there is one promise more: of the number that was stored, at that moment
-abbrev pub raised : ℕ → Step (Unit {0}) → Me (Unit {0}) Known → ℕ → Me (Unit {0}) Known → Type 0
-raised moment st me n after =
+-- there is one promise more: of the number that was stored, at that moment and after so many beats
+abbrev pub raised : ℕ → ℕ → Step (Unit {0}) → Me (Unit {0}) Known → ℕ → Me (Unit {0}) Known → Type 0
+raised moment beats st me n after =
     (order : List Event) × IsPrefix me.0.order order
-    × (after ≡ (record me.0 { promises = one_more me.0.promises n moment me.0.begun; order = order }, me.1))
+    × (after ≡ (record me.0 { promises = one_more me.0.promises n moment me.0.begun beats; order = order }, me.1))
 
--- one write more began
-abbrev pub begun_more : Step (Unit {0}) → Me (Unit {0}) Known → ℕ → Me (Unit {0}) Known → Type 0
-begun_more st me n after =
+-- one write more began, after so many beats
+abbrev pub begun_more : ℕ → Step (Unit {0}) → Me (Unit {0}) Known → ℕ → Me (Unit {0}) Known → Type 0
+begun_more beats st me n after =
     (order : List Event) × IsPrefix me.0.order order
-    × (after ≡ (record me.0 { order = order; begun = me.0.begun + 1 }, me.1))
+    × (after ≡ (record me.0 { order = order; begun = me.0.begun + 1; beats = beats }, me.1))
 
 -- A request came to a seat that knew this, and it knows that then. The number that was found is what all promises so
 -- far count at most.
@@ -146,7 +154,7 @@ pub record Sees (v : Known) (w : Known) : Type 0 where
   pub among : AreAmong v.promises (promises_in order)
   pub heard : v.is_keeper ≡ true → AreAmong v.heard v.promises
   pub heard_begins : IsPrefix v.heard_order order
-  pub numbered : AreNumbered 0 order
+  pub numbered : AreNumbered 0 0 order
 
 abbrev pub looks : Step (Unit {0}) → Me (Unit {0}) Known → ℕ → Me (Unit {0}) Known → Type 0
 looks st me n after = Sees me.0 after.0 × (after.1 ≡ me.1)

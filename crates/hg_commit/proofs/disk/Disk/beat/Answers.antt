@@ -1,4 +1,4 @@
-use Rattle.std.proofs.Common.{◌≡◌, ◌<◌, ◌≤◌, ◌++◌, ◌∷◌, [], false, true, ℕ, List, ap, sym, subst, ◌∙◌, arith}
+use Rattle.std.proofs.Common.{◌≡◌, ◌<◌, ◌≤◌, ◌++◌, ◌∷◌, [], false, true, ℕ, List, ap, refl, sym, subst, ◌∙◌, arith}
 use Rattle.hg_store.specs.Device.{LeavesOnly}
 use Rattle.std.specs.Prelude.{Contains}
 use Rattle.std.proofs.lemmas.List.Elements.{All-push, All-same, All-weaker, Contains-push}
@@ -7,6 +7,7 @@ use Rattle.hg_commit.specs.Promises.{KeeperView, Promise}
 use Rattle.hg_commit.specs.code.Tallies.{one_more}
 use Rattle.hg_commit.specs.Locks.{DiskView}
 use Rattle.hg_commit.proofs.Keeping.{keeps_same}
+use Rattle.hg_commit.proofs.Beats.{said_with}
 use Rattle.hg_commit.proofs.Lists.{went_well}
 use Rattle.hg_commit.proofs.Living.{beat_front, kept_front, lives_after, lives_failed, promise_now, promises_after, still_front}
 use Rattle.hg_commit.proofs.disk.Disk.beat.Goals as goal
@@ -17,12 +18,21 @@ beat-requires g c =
     (g.J.Storing.head, g.J.Storing.stored ++ k.records, k.settled)
 
 -- no promise counts more than the records that are there
-pub raise-requires : goal.raise-requires
-raise-requires g c =
+pub raise-requires-clause-most : goal.raise-requires-clause-most
+raise-requires-clause-most g c =
     let d = c.self.inside in
     All-weaker (IsKeptSince g.D.Device.moment g.D.Device.left_since g.J.Storing.head g.J.Storing.stored
     g.J.Naming.first d.witness d.count d.log.device) (λ p. p.count ≤ d.count) (λ p k. k.few) d.keeper.promises
     c.self.invariant.4
+
+-- it has had a beat since the last write began
+pub raise-requires-clause-beat : goal.raise-requires-clause-beat
+raise-requires-clause-beat g c = λ some.
+    let beats = g.D.Device.beats in
+    let was = c.self.invariant.8 c.if-self.false some in
+    let more : beats c.self.inside.log.device < beats c.beat.new.self.device =
+    went_well c.beat.result (sym c.is_err.ensures.value ∙ c.if-is_err.false) c.beat.ensures.beat in
+    omega (arith, was, more)
 
 -- a beat that failed leaves what was there, too
 pub invariant_of-self : goal.invariant_of-self
@@ -48,6 +58,8 @@ invariant_of-self g c =
       λ b. absurd (let e : true ≡ false = b in cc),
       i.6,
       i.7,
+      λ b. absurd (let e : true ≡ false = b in cc),
+      λ b. absurd (let e : true ≡ false = b in cc),
     )
 
 -- one that went well leaves all as it was, and promises it by now
@@ -69,10 +81,15 @@ invariant_of-self-2 g c =
     (c.beat.ensures.same head (stored ++ k.records) k.settled)) in
     let run = beat_front seen may_leave head stored first moment left_since d.witness d.count d.log k d.log.device now
     (c.beat.ensures.any_moment head (stored ++ k.records) k.settled) in
-    let one : Promise = record { count = d.count; moment = moment now; write = d.begun } in
+    let beats = g.D.Device.beats in
+    let more : beats d.log.device < beats now =
+    went_well c.beat.result (sym c.is_err.ensures.value ∙ c.if-is_err.false) c.beat.ensures.beat in
+    let known = ap (λ (v : KeeperView). v.beats) c.raise.ensures in
+    let begun = ap (λ (v : KeeperView). v.begun) c.raise.ensures in
+    let one : Promise = record { count = d.count; moment = moment now; write = d.begun; beats = beats now } in
     let raised : c.raise.new.keeper.promises ≡ d.keeper.promises ++ one ∷ [] =
     ap (λ (v : KeeperView). v.promises) c.raise.ensures
-    ∙ ap (λ (n : ℕ). one_more d.keeper.promises d.count (moment now) n) (sym i.7) in
+    ∙ ap (λ (n : ℕ). one_more d.keeper.promises d.count (moment now) n (beats now)) (sym i.7) in
     let Kept : Promise → Type 0 = IsKeptSince moment left_since head stored first d.witness d.count now in
     let front = kept_front seen may_leave head stored first c.records_are_read_back.ensures d.witness d.count
     c.beat.new.self keeps in (
@@ -85,11 +102,14 @@ invariant_of-self-2 g c =
           (All-push Kept d.keeper.promises one
           (promises_after moment left_since head stored first d.witness d.count d.count d.log.device now (omega arith)
           run d.keeper.promises i.4)
-          (promise_now moment left_since head stored first may_leave d.witness d.count d.begun now
+          (promise_now moment left_since head stored first may_leave d.witness d.count d.begun (beats now) now
           (g.met.D.Device.only_now now) front)),
       λ b. subst (λ (l : List Promise). Contains l one) (sym raised) (Contains-push d.keeper.promises one),
       i.6,
-      i.7 ∙ sym (ap (λ (v : KeeperView). v.begun) c.raise.ensures),
+      i.7 ∙ sym begun,
+      λ b some. let was = i.8 c.if-self.false (omega (arith, begun, some)) in omega (arith, known, was, more),
+      λ b. said_with d.keeper.promises c.raise.new.keeper.promises one (beats d.log.device) (beats now)
+          (omega (arith, more)) refl raised (i.9 c.if-self.false),
     )
 
 pub returns-then-is_err-clause-any_moment : goal.returns-then-is_err-clause-any_moment

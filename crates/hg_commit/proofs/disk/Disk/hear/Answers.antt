@@ -25,4 +25,6 @@ invariant_of-self g c =
       i.5,
       i.6,
       i.7,
+      i.8,
+      i.9,
     )

@@ -27,6 +27,8 @@ invariant_of-self g c =
           (left_on BATCH_BYTES d.left c.unwrap_or-self-inside.result d.batch.items c.args.entry c.left_beside.result i.6
           c.left_beside.ensures c.unwrap_or-self-inside.ensures),
       i.7,
+      i.8,
+      i.9,
     )
 
 pub push_reserved-requires : goal.push_reserved-requires

@@ -16,6 +16,7 @@ use Rattle.hg_commit.specs.Records.{AreRecordsFrom, KeepsRecords}
 use Rattle.hg_commit.specs.declared.disk.TheConstants.{BATCH_BYTES}
 use Rattle.hg_commit.proofs.Keeping.{keeps_more}
 use Rattle.hg_commit.proofs.Handing.{none_more, off}
+use Rattle.hg_commit.proofs.Beats.{said_with}
 use Rattle.hg_commit.proofs.Lists.{fit, went_well}
 use Rattle.hg_commit.proofs.Living.{kept_front, lives_after, lives_failed, promise_now, promises_after, still_front, written_front}
 use Rattle.hg_commit.proofs.disk.Disk.write.Goals as goal
@@ -29,12 +30,21 @@ append-requires-clause-each g c =
     (fit g.J.Naming.first i.0 d.witness d.count d.batch.items i.2)
 
 -- no promise counts more than the records that are there now
-pub raise-requires : goal.raise-requires
-raise-requires g c =
+pub raise-requires-clause-most : goal.raise-requires-clause-most
+raise-requires-clause-most g c =
     let d = c.self.inside in
     All-weaker (IsKeptSince g.D.Device.moment g.D.Device.left_since g.J.Storing.head g.J.Storing.stored
     g.J.Naming.first d.witness d.count d.log.device) (λ p. p.count ≤ d.count + c.len.result)
     (λ p k. let few = k.few in omega (arith, few)) d.keeper.promises c.self.invariant.4
+
+-- it has had a beat since the last write began
+pub raise-requires-clause-beat : goal.raise-requires-clause-beat
+raise-requires-clause-beat g c = λ some.
+    let beats = g.D.Device.beats in
+    let was = c.self.invariant.8 c.if-self.false some in
+    let more : beats c.self.inside.log.device < beats c.append.new.self.device =
+    went_well c.append.result (sym c.is_err.ensures.value ∙ c.if-is_err.false) c.append.ensures.beat in
+    omega (arith, was, more)
 
 -- an append that failed leaves what was there, too
 pub invariant_of-self-then-is_err : goal.invariant_of-self-then-is_err
@@ -62,6 +72,8 @@ invariant_of-self-then-is_err g c =
       λ b. absurd (let e : true ≡ false = b in cc),
       i.6,
       i.7,
+      λ b. absurd (let e : true ≡ false = b in cc),
+      λ b. absurd (let e : true ≡ false = b in cc),
     )
 
 pub returns-then-is_err-clause-any_moment : goal.returns-then-is_err-clause-any_moment
@@ -129,10 +141,15 @@ invariant_of-self-2 g c =
     (c.append.ensures.any_moment head (stored ++ k.records) k.settled)) in
     let now = c.append.new.self.device in
     let count : ℕ = d.count + c.len.result in
-    let one : Promise = record { count = count; moment = moment now; write = d.begun } in
+    let beats = g.D.Device.beats in
+    let more_beats : beats d.log.device < beats now =
+    went_well c.append.result (sym c.is_err.ensures.value ∙ c.if-is_err.false) c.append.ensures.beat in
+    let known = ap (λ (v : KeeperView). v.beats) c.raise.ensures in
+    let begun = ap (λ (v : KeeperView). v.begun) c.raise.ensures in
+    let one : Promise = record { count = count; moment = moment now; write = d.begun; beats = beats now } in
     let raised : c.raise.new.keeper.promises ≡ d.keeper.promises ++ one ∷ [] =
     ap (λ (v : KeeperView). v.promises) c.raise.ensures
-    ∙ ap (λ (n : ℕ). one_more d.keeper.promises count (moment now) n) (sym i.7) in
+    ∙ ap (λ (n : ℕ). one_more d.keeper.promises count (moment now) n (beats now)) (sym i.7) in
     let Kept : Promise → Type 0 = IsKeptSince moment left_since head stored first d.witness count now in
     let front = kept_front seen may_leave head stored first c.records_are_read_back.ensures d.witness count
     c.append.new.self keeps in (
@@ -147,11 +164,14 @@ invariant_of-self-2 g c =
           (All-push Kept d.keeper.promises one
           (promises_after moment left_since head stored first d.witness d.count count d.log.device now (omega arith)
           run d.keeper.promises i.4)
-          (promise_now moment left_since head stored first may_leave d.witness count d.begun now
+          (promise_now moment left_since head stored first may_leave d.witness count d.begun (beats now) now
           (g.met.D.Device.only_now now) front)),
       λ b. subst (λ (l : List Promise). Contains l one) (sym raised) (Contains-push d.keeper.promises one),
       subst (λ (l : List Entry). BATCH_BYTES ≡ BATCH_BYTES - batch_bytes l) (sym c.clear.ensures.items) refl,
-      i.7 ∙ sym (ap (λ (v : KeeperView). v.begun) c.raise.ensures),
+      i.7 ∙ sym begun,
+      λ b some. let was = i.8 c.if-self.false (omega (arith, begun, some)) in omega (arith, known, was, more_beats),
+      λ b. said_with d.keeper.promises c.raise.new.keeper.promises one (beats d.log.device) (beats now)
+          (omega (arith, more_beats)) refl raised (i.9 c.if-self.false),
     )
 
 pub append-requires-clause-settled : goal.append-requires-clause-settled
