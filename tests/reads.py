@@ -3,8 +3,8 @@
 
 For each shape of a repository a `host` of its own on the loopback. A figure is the processor time of the whole server for
 one request, the least of three; after a marker it is that of the request that follows a push of one marker. Wanted: at
-most 2 ms, and 60 ns for each byte of the answer; and where the branch map is made anew, by passes over all changesets,
-100 ns for each of them. A row that takes twice that fails the script: beside other work all takes longer.
+most 2 ms, and 60 ns for each byte of the answer. A row that takes twice that fails the script: beside other work all
+takes longer.
 """
 import http.client
 import os
@@ -146,9 +146,9 @@ SHAPES = {"lone": (lone, 150_000), "line": (line, 200_000), "fan": (fan, 200_000
           "marked": (marked, 200_000)}
 
 
-def longest(what, size, changesets):
+def longest(size):
     """How many processor seconds a request may take whose answer has so many bytes."""
-    return 2e-3 + 60e-9 * size + (100e-9 * changesets if what == ANEW else 0)
+    return 2e-3 + 60e-9 * size
 
 
 def measure(program, make, count):
@@ -175,7 +175,7 @@ def main(words):
     for name in words[1:] or SHAPES:
         changesets, rows = measure(program, *SHAPES[name])
         for what, (spent, size) in rows.items():
-            bound = longest(what, size, changesets)
+            bound = longest(size)
             fine = spent <= bound
             failed += spent > 2 * bound
             print(f"{name}, {changesets:,} changesets: {what}, {size:,} bytes: {1000 * spent:.2f} ms of"

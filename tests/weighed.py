@@ -80,7 +80,7 @@ def refused(host, sent, line):
     took, held = processor(host) - took, resident(host) - held
     print(f"    {len(sent)} bytes were refused in {took * 1000:.0f} ms, and {held >> 10} KiB more are held")
     want("some milliseconds", took < 0.5, True)
-    want("little memory", held < len(sent) + 8 * MIB, True)
+    want("little memory", held < len(sent) + 16 * MIB, True)
 
 
 def copies(base, text, count, parent):

@@ -22,7 +22,7 @@ def main(words):
             changesets, told = measure(os.path.abspath(program), MAKERS[name], int(count))
             for what, (spent, size) in told.items():
                 print(f"{os.path.basename(program)} | {name} | {changesets} | {what} | {size} | {1000 * spent:.2f} |"
-                      f" {1000 * longest(what, size, changesets):.2f}", flush=True)
+                      f" {1000 * longest(size):.2f}", flush=True)
 
 
 if __name__ == "__main__":

@@ -365,11 +365,11 @@ impl History {
             let own = self.all.get(place).copied();
             let before = self.all.last().copied();
             if let Some(own) = own {
-                let (p1, above) = match before {
-                    Some(before) if place > first => (before.node, before.ancestors),
-                    _ => (own.p1, own.above),
+                let (p1, p2, above) = match before {
+                    Some(before) if place > first => (before.node, Node::NULL, before.ancestors),
+                    _ => (own.p1, own.p2, own.above),
                 };
-                self.add(alloc, p1, Node::NULL, above, own.branch)?;
+                self.add(alloc, p1, p2, above, own.branch)?;
             }
         }
         for place in first..last {
