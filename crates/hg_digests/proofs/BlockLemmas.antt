@@ -1,5 +1,5 @@
 -- The blocks of a message with its padding, one by one.
-use Rattle.std.proofs.Common.{◌≡◌, ℕ, suc, ◌<◌, ◌≤◌, ◌+◌, ◌-◌, ◌*◌, ◌/◌, ◌%◌, ◌^◌, List, [], ◌∷◌, ◌++◌, length, take, drop, replicate, slice_set, arith, lit≤, refl, sym, ap, ◌∙◌, inl, inr, append_assoc, append-nil, length-append, length-drop}
+use Rattle.std.proofs.Common.{◌≡◌, ℕ, suc, ◌<◌, ◌≤◌, ◌+◌, ◌-◌, ◌*◌, ◌/◌, ◌%◌, List, [], ◌∷◌, ◌++◌, length, take, drop, replicate, slice_set, arith, lit≤, refl, sym, ap, ◌∙◌, inl, inr, append_assoc, append-nil, length-append, length-drop}
 use Rattle.std.proofs.lemmas.List.{drop-append-le, drop_all, drop-replicate, length-replicate, length-take-le, set-append_right, take-append-le, take-replicate, take_all}
 use Rattle.std.proofs.lemmas.Bool.{cases_lt}
 use Rattle.std.proofs.Math.Seq.{drop-append-add, drop-append_seam, take-append-add, take-append_seam}
@@ -17,7 +17,7 @@ pub put-zeros : (xs ys : List ℕ) (a k n : ℕ) → length xs ≡ a → length 
 put-zeros xs ys a k n lx ly =
     let front : take a (xs ++ replicate n 0) ≡ xs = rw (← lx) (take-append_seam xs (replicate n 0)) in
     let back : drop a (xs ++ replicate n 0) ≡ replicate n 0 = rw (← lx) (drop-append_seam xs (replicate n 0)) in
-    rw (front, back, drop-replicate k n 0) (sym (append_assoc xs ys (replicate (n - k) 0)))
+    rw (front, back, drop-replicate {X = ℕ} k n 0) (sym (append_assoc xs ys (replicate (n - k) 0)))
 
 -- the first of some zeros is set
 pub set-zeros : (xs : List ℕ) (u n y : ℕ) → length xs ≡ u → 0 < n → slice_set (xs ++ replicate n 0) u y ≡ xs ++ (y ∷ replicate (n - 1) 0)
@@ -46,7 +46,7 @@ take-front xs ys = elim (cases_lt (length xs) 64) [
 -- ---- the padding
 
 pub length-padding : (n : ℕ) → length (padding n) ≡ (119 - n % 64) % 64 + 9
-length-padding n = omega (arith, length-append (replicate ((119 - n % 64) % 64) 0) (bits_of n), length-replicate ((119 - n % 64) % 64) 0)
+length-padding n = omega (arith, length-append (replicate ((119 - n % 64) % 64) 0) (bits_of n), length-replicate {A = ℕ} ((119 - n % 64) % 64) 0)
 
 pub length-padded : (m : List ℕ) → length (padded_message m) / 64 ≡ count_of (length m)
 length-padded m =
@@ -66,9 +66,9 @@ block-of-end m k after there =
     let d : ℕ = k * 64 - n - 1 in
     let at : k * 64 ≡ length m + suc d = omega arith in
     let left : z - d ≡ 56 = omega arith in
-    let within : d ≤ length (replicate z 0) = omega (arith, length-replicate z 0) in
+    let within : d ≤ length (replicate z 0) = omega (arith, length-replicate {A = ℕ} z 0) in
     let rest : drop (k * 64) (padded_message m) ≡ replicate 56 0 ++ bits_of n =
-    rw at (drop-append-add m (padding n) (suc d)) ∙ drop-append-le d (replicate z 0) (bits_of n) within
+    ap (λ (j : ℕ). drop j (padded_message m)) at ∙ drop-append-add m (padding n) (suc d) ∙ drop-append-le d (replicate z 0) (bits_of n) within
     ∙ ap (λ (zs : List ℕ). zs ++ bits_of n) (drop-replicate d z 0 ∙ ap (λ (j : ℕ). replicate j 0) left) in
     ap (take 64) rest ∙ take_all 64 (replicate 56 0 ++ bits_of n) (lit≤ tt)
 
@@ -85,7 +85,7 @@ pub closed-marked : (c : List ℕ) (u n : ℕ) → length c ≡ u → u ≡ n % 
 closed-marked c u n lc used late =
     let z : ℕ = (119 - n % 64) % 64 in
     let fits : 63 - u ≤ z = omega arith in
-    let within : 63 - u ≤ length (replicate z 0) = omega (arith, length-replicate z 0) in
+    let within : 63 - u ≤ length (replicate z 0) = omega (arith, length-replicate {A = ℕ} z 0) in
     let one : 64 - u - 1 ≡ 63 - u = omega arith in
     let zeros : take (63 - u) (replicate z 0 ++ bits_of n) ≡ replicate (63 - u) 0 =
     take-append-le (63 - u) (replicate z 0) (bits_of n) within ∙ take-replicate (63 - u) z 0 fits in

@@ -1,6 +1,7 @@
 -- Messages that are hashed side by side.
-use Rattle.std.proofs.Common.{◌≡◌, ◌⊎◌, ℕ, ◌<◌, ◌≤◌, ◌+◌, ◌-◌, ◌*◌, List, [], length, map, take, drop, slice_set, arith, refl, sym, ap, ◌∙◌, inl, inr, subst}
+use Rattle.std.proofs.Common.{◌≡◌, ◌⊎◌, ℕ, ◌<◌, ◌+◌, ◌-◌, ◌/◌, ◌^◌, List, [], length, slice_set, arith, sym, ap, ◌∙◌, inl, inr, All}
 use Rattle.std.proofs.lemmas.List.{get_or-map, get_or-set_other, get_or-set_same, length-map, same_lists, get_or_default}
+use Rattle.std.proofs.lemmas.List.Elements.{All-get_or}
 use Rattle.std.proofs.lemmas.Bool.{cases_eq}
 use Rattle.std.proofs.Math.ListN.{get_or}
 use Rattle.sha1.specs.Sha1.{compress, digest_bytes, hash_after, initial_hash, padded_message, sha1}
@@ -8,16 +9,18 @@ use Rattle.sha1.proofs.Absorbing.{hash_after_next}
 use Rattle.hg_digests.specs.declared.lane.Lane.{Lane}
 use Rattle.hg_digests.specs.declared.lanes.Lanes.{Lanes}
 use Rattle.hg_digests.specs.declared.place.Place.{Place}
-use Rattle.hg_digests.specs.Messages.{digest_at, digests_at, message_at}
+use Rattle.hg_digests.specs.Messages.{IsWithin, digest_at, digests_at, message_at}
 use Rattle.hg_digests.specs.code.Blocks.{block_of, count_of}
 use Rattle.hg_digests.specs.code.Lanes.{own}
-use Rattle.hg_digests.specs.code.Hashing.{Advances, Has, IsHashing, IsInHand, IsLane, IsMessage, IsNext, IsRight, messages_at}
-use Rattle.hg_digests.proofs.BlockLemmas.{length-padded}
+use Rattle.hg_digests.specs.code.Hashing.{Advances, Has, IsHashing, IsLane, IsMessage, IsNext, IsRight, messages_at}
+use Rattle.hg_digests.proofs.BlockLemmas.{length-message, length-padded}
 
--- the message of that number
-pub own-messages : (bytes : List ℕ) (places : List Place) (i : ℕ) (place : Place) → i < length places → place ≡ get_or places i place
-    → own (messages_at bytes places) i ≡ message_at bytes place
-own-messages bytes places i place there e = get_or-map (message_at bytes) places i place [] there ∙ ap (message_at bytes) (sym e)
+-- the length of the message of that number
+pub length-own : (bytes : List ℕ) (places : List Place) (i : ℕ) (d : Place) → All (IsWithin (length bytes)) places → i < length places
+    → length (own (messages_at bytes places) i) ≡ 40 + ((get_or places i d).to - (get_or places i d).from)
+length-own bytes places i d within there =
+    ap length (get_or-map (message_at bytes) places i d [] there)
+    ∙ length-message bytes (get_or places i d) (All-get_or (IsWithin (length bytes)) places i d there within)
 
 -- the hash value after one more block
 pub hash-next : (messages : List (List ℕ)) (lane : Lane) (hash : List ℕ) → 0 < lane.left → IsMessage messages lane → IsNext messages lane hash
@@ -68,11 +71,12 @@ in-hand a b c d r held = elim held [
 -- ---- one lane
 
 pub lane-begun : (messages : List (List ℕ)) (lane : Lane) → lane.number < length messages → lane.hash ≡ initial_hash → lane.taken ≡ 0
-    → lane.left ≡ count_of (length (own messages lane.number)) → IsLane messages lane
+    → lane.left ≡ count_of (length (own messages lane.number)) → lane.left < 2 ^ 60 → IsLane messages lane
 unfolding hash_after
-lane-begun messages lane there hash taken left busy = record {
+lane-begun messages lane there hash taken left short busy = record {
   there = there;
   blocks = omega arith;
+  short = omega arith;
   hash = rw taken hash;
 }
 
@@ -92,6 +96,7 @@ advances-more messages digests lane next hash more sound is_next e =
       sound = λ busy. record {
         there = held.there;
         blocks = omega (arith, held.blocks);
+        short = omega (arith, held.short);
         hash = hash-next messages lane hash (omega arith) held is_next;
       };
       has = λ i h. inl (omega arith, h.1);

@@ -1,12 +1,12 @@
 -- What holds of each of four lanes.
-use Rattle.std.proofs.Common.{◌≡◌, ℕ, zero, suc, ◌<◌, ◌≤◌, ◌+◌, ◌-◌, ◌*◌, ◌/◌, ◌%◌, ◌^◌, List, [], ◌∷◌, length, slice_index, slice_index_or, slice_set, bit_or, bit_xor, bit_and, arith, refl, ap, ◌∙◌, map}
+use Rattle.std.proofs.Common.{◌≡◌, ℕ, zero, suc, ◌<◌, ◌≤◌, ◌+◌, ◌-◌, ◌*◌, ◌/◌, ◌%◌, ◌^◌, List, [], ◌∷◌, length, slice_index, slice_set, bit_or, bit_xor, bit_and, arith, refl, ap, ◌∙◌, map}
 use Rattle.std.specs.Simd.Lanes.{zip2}
 use Rattle.std.specs.Int.{w32, rotate_left, bit_not}
 use Rattle.std.proofs.Math.ListN.{get_or-map}
 use Rattle.std.proofs.lemmas.List.{map-set}
 use Rattle.sha1.specs.Sha1.{ch, parity, maj, IsRoundsAt, window_word, round, round_fn, round_constant, add32, add_state}
 use Rattle.sha1.proofs.Schedule.{rounds_window}
-use Rattle.hg_digests.specs.code.Lanes.{AreRoundsAt, lane, lane_at, own}
+use Rattle.hg_digests.specs.code.Lanes.{AreRoundsAt, lane, lane_at}
 
 -- what holds at 0, 1, 2 and 3 holds below four
 pub below_four : (P : ℕ → Type 0) → P 0 → P 1 → P 2 → P 3 → (j : ℕ) → j < 4 → P j

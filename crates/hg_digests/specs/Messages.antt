@@ -1,5 +1,5 @@
 -- Messages: two ids and a text, one after the other, and their digests.
-use Rattle.std.specs.Prelude.{◌≡◌, ℕ, List, ◌++◌, ◌+◌, ◌-◌, ◌≤◌, take, drop, map}
+use Rattle.std.specs.Prelude.{ℕ, List, ◌++◌, ◌+◌, ◌-◌, ◌≤◌, take, drop, map}
 use Rattle.sha1.specs.Sha1.{sha1}
 use Rattle.hg_digests.specs.declared.place.Place.{Place}
 

@@ -1,6 +1,6 @@
 //! The blocks of a message with its padding (FIPS 180-4, 5.1.1): a byte 1000 0000, zeros, and the length in bits.
 
-ghost use Rattle.std.specs.Prelude.{◌≡◌, ℕ, List, ◌+◌, ◌-◌, ◌%◌, ◌<◌, ◌≤◌, ◌++◌, length, take, drop, replicate};
+ghost use Rattle.std.specs.Prelude.{◌≡◌, ℕ, List, ◌+◌, ◌-◌, ◌%◌, ◌^◌, ◌<◌, ◌≤◌, ◌++◌, length, take, drop, replicate};
 ghost use Rattle.sha1.specs.Sha1.{padding};
 ghost use Rattle.hg_digests.specs.Messages.{IsWithin, id_in, message_at, text_in};
 ghost use Rattle.hg_digests.specs.code.Blocks.{bits_of, block_of, count_of};
@@ -14,7 +14,8 @@ const LENGTH: usize = 56;
 /// How long the message is.
 fn size_of(place: &Place) -> usize
     requires { place.now.from ≤ place.now.to }
-    ensures { result ≡ 40 + (place.now.to - place.now.from) }
+    ensures size { result ≡ 40 + (place.now.to - place.now.from) }
+    ensures short { result < 2 ^ 33 }
 {
     2 * ID + (place.to - place.from) as usize
 }
@@ -22,7 +23,8 @@ fn size_of(place: &Place) -> usize
 /// How many blocks the message has.
 pub fn block_count(place: &Place) -> usize
     requires { place.now.from ≤ place.now.to }
-    ensures { result ≡ count_of (40 + (place.now.to - place.now.from)) }
+    ensures count { result ≡ count_of (40 + (place.now.to - place.now.from)) }
+    ensures short { result < 2 ^ 60 }
 {
     (size_of(place) + 72) / BLOCK
 }

@@ -1,6 +1,6 @@
 //! A lane: a message of which some blocks were taken.
 
-ghost use Rattle.std.specs.Prelude.{◌≡◌, ℕ, List, All, ◌+◌, ◌-◌, ◌<◌, ◌≤◌, length};
+ghost use Rattle.std.specs.Prelude.{◌≡◌, ℕ, List, All, ◌+◌, ◌-◌, ◌^◌, ◌<◌, ◌≤◌, length};
 ghost use Rattle.sha1.specs.Sha1.{digest_bytes, initial_hash};
 ghost use Rattle.hg_digests.specs.Messages.{IsWithin};
 ghost use Rattle.hg_digests.specs.code.Lanes.{own};
@@ -53,6 +53,7 @@ impl Lane {
         ensures hash { result.hash ≡ initial_hash }
         ensures taken { result.taken ≡ 0 }
         ensures left { result.left ≡ count_of (40 + (place.now.to - place.now.from)) }
+        ensures short { result.left < 2 ^ 60 }
     {
         Lane {
             number,
@@ -79,7 +80,8 @@ impl Lane {
     /// The message after its next block, with the hash value that it then has. Where that was the last one, its digest
     /// is kept.
     pub fn advance(self, hash: HashValue, digests: &mut [Digest]) -> Lane
-        requires { 0 < self.left → self.number < length digests.old }
+        requires there { 0 < self.left → self.number < length digests.old }
+        requires short { 0 < self.left → self.taken + self.left < 2 ^ 60 }
         ensures left { result.left ≡ self.left - 1 }
         ensures advances { (messages : List (List ℕ)) → IsLane messages self → IsNext messages self hash
             → Advances messages self result digests.old digests.new }

@@ -1,5 +1,5 @@
 -- Messages that are hashed side by side.
-use Rattle.std.specs.Prelude.{◌≡◌, ◌⊎◌, ℕ, List, ◌<◌, ◌≤◌, ◌+◌, length, map}
+use Rattle.std.specs.Prelude.{◌≡◌, ◌⊎◌, ℕ, List, ◌<◌, ◌+◌, ◌^◌, length, map}
 use Rattle.sha1.specs.Sha1.{compress, hash_after, padded_message, sha1}
 use Rattle.hg_digests.specs.declared.lane.Lane.{Lane}
 use Rattle.hg_digests.specs.declared.lanes.Lanes.{Lanes}
@@ -12,12 +12,14 @@ use Rattle.hg_digests.specs.code.Lanes.{own}
 abbrev pub messages_at : List ℕ → List Place → List (List ℕ)
 messages_at bytes places = map (message_at bytes) places
 
--- the message of a lane, if it has one: the hash value is that of the blocks that were taken, and the others are left
+-- the message of a lane: the hash value is that of the blocks that were taken, and the others are left
 pub record IsMessage (messages : List (List ℕ)) (lane : Lane) : Type 0 where
   pub there : lane.number < length messages
   pub blocks : lane.taken + lane.left ≡ count_of (length (own messages lane.number))
+  pub short : lane.taken + lane.left < 2 ^ 60
   pub hash : lane.hash ≡ hash_after (padded_message (own messages lane.number)) lane.taken
 
+-- a lane has a message, or none
 abbrev pub IsLane : List (List ℕ) → Lane → Type 0
 IsLane messages lane = 0 < lane.left → IsMessage messages lane
 

@@ -1,5 +1,5 @@
 -- Four messages side by side: each word is a vector, with one lane for each message.
-use Rattle.std.specs.Prelude.{◌≡◌, ℕ, List, ◌<◌, map, [], slice_index, slice_index_or}
+use Rattle.std.specs.Prelude.{ℕ, List, ◌<◌, map, [], slice_index, slice_index_or}
 use Rattle.sha1.specs.Sha1.{IsRoundsAt}
 
 -- lane j of vector k

@@ -1,4 +1,4 @@
-use Rattle.std.proofs.Common.{rules, ◌≡◌, ◌*◌, sym, ◌∙◌, arith}
+use Rattle.std.proofs.Common.{rules, ◌≡◌, sym, ◌∙◌, arith}
 use Rattle.std.proofs.lemmas.List.{take_all}
 use Rattle.std.proofs.lemmas.Slice.{overwrites}
 use Rattle.sha1.specs.Sha1.{digest_bytes}
@@ -13,7 +13,7 @@ pub words-preserved : goal.words-preserved
 words-preserved c = (
   search (rules, overwrites),
   digest_more c.words.digest c.args.hash.now _ c.words.i _ c.words.invariant.1 (omega arith)
-      (c.copy_from_slice.ensures.after ∙ c.to_be_bytes-in-words.ensures),
+      (c.copy_from_slice.ensures.after ∙ c.to_be_bytes.ensures),
 )
 
 pub returns : goal.returns

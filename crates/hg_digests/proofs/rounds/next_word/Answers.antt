@@ -1,4 +1,4 @@
-use Rattle.std.proofs.Common.{◌≡◌, ℕ, ◌+◌, ◌%◌, ap, ap₂, ◌∙◌, refl, bit_xor}
+use Rattle.std.proofs.Common.{ℕ, ◌+◌, ◌%◌, ap, ap₂, ◌∙◌, refl, bit_xor}
 use Rattle.std.specs.Int.{w32, rotate_left}
 use Rattle.hg_digests.proofs.LaneLemmas.{slice_index-lane}
 use Rattle.hg_digests.proofs.rounds.next_word.Goals as goal
