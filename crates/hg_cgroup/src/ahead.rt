@@ -62,13 +62,14 @@ fn texts_in<A: Allocator>(alloc: A, bytes: &[u8]) -> Vec<Place, A> {
 
 impl Whole {
     /// Where the ids and the text stand in a chunk from one place to another.
-    fn place(&self, from: u32, to: u32) -> Place {
+    fn place(self, from: u32, to: u32) -> Place {
+        let Whole { size, is_ordered } = self;
         let (p1, p2) = (from.saturating_add(P1), from.saturating_add(P2));
-        let (first, second) = if self.is_ordered { (p1, p2) } else { (p2, p1) };
+        let (first, second) = if is_ordered { (p1, p2) } else { (p2, p1) };
         Place {
             first,
             second,
-            from: to.saturating_sub(self.size),
+            from: to.saturating_sub(size),
             to,
         }
     }
