@@ -52,7 +52,7 @@ $(PROGRAM): $(SOURCES)
 	@echo 'by their speed; where crates did not change, some minutes.'
 	@python3 tools/gate.py build
 	@echo 'Building the program.'
-	@cd crates/hg_pushd && rt run -- one < ../../examples/first-push.hg20 > /dev/null
+	@cd crates/hg_pushd && python3 ../../tools/gate/once.py run -- one < ../../examples/first-push.hg20 > /dev/null
 	@mkdir -p build
 	@cp crates/hg_pushd/out/hg_pushd $(PROGRAM)
 	@echo 'The program is at $(PROGRAM).'

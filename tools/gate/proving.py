@@ -8,6 +8,7 @@ status is 1.
 import os
 import shutil
 import subprocess
+import sys
 import tempfile
 import time
 from concurrent.futures import FIRST_COMPLETED, ThreadPoolExecutor, wait
@@ -15,6 +16,7 @@ from concurrent.futures import FIRST_COMPLETED, ThreadPoolExecutor, wait
 import sources
 
 LOGS = f"{sources.ROOT}/build/proving"
+RT = [sys.executable, f"{os.path.dirname(os.path.abspath(__file__))}/once.py"]
 
 
 def files_of(crate):
@@ -71,7 +73,7 @@ def prove(crate, jobs, uses, place):
     try:
         folder = f"{stand}/crates/{crate}"
         is_program = os.path.exists(f"{folder}/src/main.rt")
-        words = ["rt", "check" if is_program else "lib", "--jobs", str(jobs)]
+        words = [*RT, "check" if is_program else "lib", "--jobs", str(jobs)]
         with open(f"{LOGS}/{crate}.log", "w", encoding="utf-8") as log:
             return subprocess.run(words, cwd=folder, stdout=log, stderr=log, check=False).returncode
     finally:
