@@ -5,7 +5,7 @@ ghost use Rattle.std.specs.Prelude.{◌≡◌};
 use crate::changeset::split_id;
 use crate::chunk::{Chunk, read_chunk};
 use crate::version::Version;
-use hg_types::{Node, Payload};
+use hg_types::{Node, Payload, Place};
 use std::alloc::Allocator;
 
 /// The bytes of a hunk before its text: where it begins and ends in the base, and the length of its text.
@@ -29,25 +29,49 @@ struct Whole {
     is_ordered: bool,
 }
 
-/// Hashes the texts that a changegroup of version 02 carries whole, each after the ids of its parents. [`decode`]
-/// finds these hashes then. A text is carried whole where its delta is on nothing, as a client of Mercurial sends most.
-/// It ends at the first byte that is no changeset's. Where memory is refused, the rest have no hashes.
+/// Hashes the texts that a changegroup of version 02 carries whole, each after the ids of its parents, several side by
+/// side. [`decode`] finds these hashes then. A text is carried whole where its delta is on nothing, as a client of
+/// Mercurial sends most. It ends at the first byte that is no changeset's. Where memory is refused, the rest have no
+/// hashes.
 ///
 /// [`decode`]: crate::decode
-pub fn hash_texts<A: Allocator>(payload: &mut Payload<A>)
+pub fn hash_texts<A: Allocator + Copy>(payload: &mut Payload<A>)
     ensures { payload.new ≡ payload.old }
 {
+    let places = texts_in(payload.allocator(), payload.as_slice());
+    payload.hash_each(&places);
+}
+
+/// Where the texts stand that changesets carry whole, each with the ids of its parents.
+fn texts_in<A: Allocator>(alloc: A, bytes: &[u8]) -> Vec<Place, A> {
+    let mut places = Vec::new(alloc);
     let mut at = 0;
-    'chunks: for _ in 0..payload.len() {
-        let Some(Placed { from, to, whole }) = changeset_at(payload.as_slice(), at) else {
-            return;
+    'chunks: for _ in 0..bytes.len() {
+        let Some(Placed { from, to, whole }) = changeset_at(bytes, at) else {
+            return places;
         };
-        if let Some(Whole { size, is_ordered }) = whole {
-            let (p1, p2) = (from.saturating_add(P1), from.saturating_add(P2));
-            let (lesser, greater) = if is_ordered { (p1, p2) } else { (p2, p1) };
-            payload.hash(lesser, greater, to.saturating_sub(size), to);
+        if let Some(whole) = whole {
+            if places.push(whole.place(from, to)).is_err() {
+                return places;
+            }
         }
         at = to;
+    }
+    places
+}
+
+impl Whole {
+    /// Where the ids and the text stand in a chunk from one place to another.
+    fn place(self, from: u32, to: u32) -> Place {
+        let Whole { size, is_ordered } = self;
+        let (p1, p2) = (from.saturating_add(P1), from.saturating_add(P2));
+        let (first, second) = if is_ordered { (p1, p2) } else { (p2, p1) };
+        Place {
+            first,
+            second,
+            from: to.saturating_sub(size),
+            to,
+        }
     }
 }
 

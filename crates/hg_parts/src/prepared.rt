@@ -75,6 +75,24 @@ pub fn hash_ahead<A: Allocator + Copy>(mut part: BoxedPart<A>) -> BoxedPart<A>
     part
 }
 
+/// The same for each of these parts.
+pub fn hash_all_ahead<A: Allocator + Copy>(parts: &mut [Part<A>])
+    ensures { parts.new ≡ parts.old }
+{
+    'parts: for number in 0..parts.len() {
+        hash_part(&mut parts[number]);
+    }
+}
+
+/// The same for a part that stands where it is.
+fn hash_part<A: Allocator + Copy>(part: &mut Part<A>)
+    ensures { part.new ≡ part.old }
+{
+    if is_group_with_bases(part) {
+        hash_texts(&mut part.payload);
+    }
+}
+
 /// Whether the part is a changegroup of the version that names the base of each delta.
 fn is_group_with_bases<A: Allocator>(part: &Part<A>) -> bool {
     matches!(supported_type(part), Some(PartType::ChangeGroup))

@@ -25,6 +25,7 @@ mod words;
 pub use boxed::{BoxedPart, BoxedSeq};
 pub use delta::Delta;
 pub use entry::Entry;
+pub use hg_digests::Place;
 pub use item::{CutReason, Item, Taken, What};
 pub use law::{a_key_has_one_value, bytes_are_bytes, phases_are_ordered_by_number};
 pub use limits::{Limits, Settings};
