@@ -109,7 +109,7 @@ impl<A: Allocator> Prepared<A> {
 }
 
 /// What is kept of a part that was read so.
-fn keep<A: Allocator + Copy>(mut part: BoxedPart<A>, reading: Reading<A>) -> Prepared<A>
+pub(crate) fn keep<A: Allocator + Copy>(mut part: BoxedPart<A>, reading: Reading<A>) -> Prepared<A>
     ensures { result ≡ kept_with part reading }
 {
     if is_read(&reading) {

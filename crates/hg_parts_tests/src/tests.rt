@@ -4,6 +4,7 @@
 mod ahead;
 mod ample;
 mod heads;
+mod sent;
 mod steps;
 
 ghost use Rattle.hg_parts.specs.Store.{IsSound};

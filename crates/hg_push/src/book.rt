@@ -17,8 +17,9 @@ use crate::row::{Row, State};
 use crate::step::{
     closed_place, has_push, open_place, outcome_of, place_of, row_standing, step_row,
 };
+use hg_parts::Item;
 use hg_repo::{Done, Refusal, Repo};
-use hg_types::{Item, Pages};
+use hg_types::Pages;
 use std::alloc::{Allocator, Global};
 use std::collections::VecDeque;
 use std::marker::Model;

@@ -6,8 +6,9 @@ ghost use Rattle.hg_push.specs.Run.{RepositoryOf, run_push};
 
 use crate::book::{Book, OpenFault};
 use crate::outcome::Outcome;
+use hg_parts::Item;
 use hg_repo::{Done, Refusal};
-use hg_types::{Item, NoMemory};
+use hg_types::NoMemory;
 use std::alloc::{Allocator, Global};
 
 /// A call of a book.

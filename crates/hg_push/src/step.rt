@@ -20,8 +20,9 @@ ghost use Rattle.hg_push.specs.Reply.{CanBeSent, KeepsTellable};
 
 use crate::outcome::{Outcome, Reason, Standing};
 use crate::row::{Row, State};
-use hg_repo::{Done, Prepared, Refusal, Repo, Source, prepare};
-use hg_types::{BoxedPart, NoMemory, Pages, What};
+use hg_parts::{SentPart, What};
+use hg_repo::{Done, Prepared, Refusal, Repo, Source};
+use hg_types::{NoMemory, Pages};
 use std::alloc::Allocator;
 use std::collections::VecDeque;
 use std::mem;
@@ -151,7 +152,7 @@ fn stage<A: Allocator + Copy>(
     alloc: A,
     row: &mut Row<Done<A>, Refusal<A>, A>,
     index: u32,
-    part: BoxedPart<A>,
+    part: SentPart<A>,
 ) -> bool
     requires { is_open row.old.state ≡ true }
     ensures steps { (old : Serial (RepositoryOf A)) → StepsRow run_push old row.old
@@ -161,7 +162,7 @@ fn stage<A: Allocator + Copy>(
         }) old row.new }
     ensures told { KeepsTellable row.new.state }
 {
-    match prepare(alloc, part) {
+    match part.prepared(alloc) {
         Ok(prepared) => add(row, prepared),
         Err(NoMemory) => {
             close(row, Outcome::Aborted(Reason::NoMemory));

@@ -9,9 +9,10 @@ mod replies;
 ghost use Rattle.std.specs.Prelude.{◌≤◌};
 
 use hg_help_tests::parts::{part_of, settings};
+use hg_parts::{CutReason, Item, SentPart, What};
 use hg_push::{Book, Outcome, Reason};
 use hg_repo::{Done, Refusal, Repo};
-use hg_types::{BoxedPart, CutReason, Item, NoMemory, Param, Payload, Seq, Short, What};
+use hg_types::{BoxedPart, NoMemory, Param, Payload, Seq, Short};
 use std::alloc::Allocator;
 use std::hash::RandomState;
 
@@ -62,11 +63,11 @@ fn part_with<A: Allocator + Copy>(
     BoxedPart::new(alloc, part)
 }
 
-fn a_part<A: Allocator>(push: u32, index: u32, part: BoxedPart<A>) -> Item<A> {
+fn a_part<A: Allocator + Copy>(push: u32, index: u32, part: BoxedPart<A>) -> Item<A> {
     Item {
         push,
         index,
-        what: What::Part(part),
+        what: What::Part(SentPart::as_it_came(part)),
     }
 }
 

@@ -9,8 +9,8 @@ use mathlib.Core.List.{IsPrefix}
 use lib.ListN.{get_elem?}
 use Rattle.crossbeam_queue.specs.Fifo.{Pushes, Pops, Forks, Learns}
 use Rattle.crossbeam_queue.proofs.Lists.{at_set, set_again, set_here}
-use Rattle.hg_types.specs.declared.item.Item.{Item}
-use Rattle.hg_types.specs.declared.item.Taken.{Taken}
+use Rattle.hg_parts.specs.declared.item.Item.{Item}
+use Rattle.hg_parts.specs.declared.item.Taken.{Taken}
 use Rattle.hg_queue.specs.declared.view.Claim.{Claim}
 use Rattle.hg_queue.specs.declared.view.TakerView.{TakerView}
 use Rattle.hg_queue.specs.declared.view.PutterView.{PutterView}

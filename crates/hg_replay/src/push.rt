@@ -9,13 +9,13 @@ ghost use Rattle.hg_replay.specs.Taking.{HasTaken, IsIdle, PushLeaves, PushTakes
 
 use crate::receiving::receive;
 use hg_connection::{BundleEnd, Reader, cut_of};
-use hg_parts::hash_ahead;
+use hg_parts::{Item, SentPart, What};
 use hg_push::laws::closed_pushes_have_ended;
 use hg_push::{Book, Outcome};
 use hg_repo::{Done, Refusal};
 use hg_stream::Unbundler;
 use hg_stream::laws::parts_are_few;
-use hg_types::{Item, Limits, What};
+use hg_types::Limits;
 use std::alloc::Allocator;
 
 /// Opens a push, receives its bundle, runs it on the repository of the book, and says why no more was read of
@@ -87,7 +87,7 @@ fn step_parts<A: Allocator + Copy>(book: &mut Book<A>, push: u32, bundle: &mut U
 {
     let mut index = 0;
     while let Some(part) = bundle.next_part() {
-        let what = What::Part(hash_ahead(part));
+        let what = What::Part(SentPart::read_ahead(part));
         book.step(Item { push, index, what });
         index += 1;
     }

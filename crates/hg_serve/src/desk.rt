@@ -4,7 +4,7 @@ ghost use Rattle.std.specs.Prelude.{◌≡◌, ◌<◌, ◌≤◌, ◌+◌, ◌+
 ghost use Rattle.std.specs.Prelude.{IfErr, IsOk, IsErrOf, MatchBool, ◌↔◌, is_none, All};
 ghost use mathlib.Core.List.{IsPrefix};
 ghost use Rattle.crossbeam_queue.specs.Fifo.{Held};
-ghost use Rattle.hg_types.specs.declared.item.Taken.{Taken};
+ghost use Rattle.hg_parts.specs.declared.item.Taken.{Taken};
 ghost use Rattle.hg_queue.specs.declared.view.View.TheVariants.{AsTaker};
 ghost use Rattle.hg_queue.specs.History.{has, of, items_of};
 ghost use Rattle.hg_queue.specs.Rules.{Stands};

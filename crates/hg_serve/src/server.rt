@@ -3,7 +3,7 @@
 ghost use Rattle.std.specs.Prelude.{◌≡◌, ◌≤◌, [], IfOk, IfErr, IsOk, MatchResult, All, length};
 ghost use mathlib.Core.List.{IsPrefix};
 ghost use Rattle.hg_types.specs.Limits.{IsAllowed};
-ghost use Rattle.hg_types.specs.declared.item.What.TheVariants.{Part as a_part, End, Cut};
+ghost use Rattle.hg_parts.specs.declared.item.What.TheVariants.{Part as a_part, End, Cut};
 ghost use Rattle.hg_queue.specs.History.{of, items_of};
 ghost use Rattle.hg_queue.specs.Seats.{putter};
 ghost use Rattle.hg_queue.specs.Words.{history, what_of, IsTakerIn};
@@ -20,10 +20,11 @@ use crate::desk::{Answer, Closed, Desk};
 use crate::naming::Naming;
 use crate::pauses::Pauses;
 use crate::probe::{Point, Probe};
+use hg_parts::{CutReason, SentPart};
 use hg_push::OpenFault;
 use hg_queue::{Full, Mark, PartQueue, Taker};
 use hg_repo::Repo;
-use hg_types::{BoxedPart, CutReason, Limits, NoMemory};
+use hg_types::{Limits, NoMemory};
 use std::alloc::{Allocator, Global};
 use std::fmt;
 use std::marker::{Model, PhantomData};
@@ -41,10 +42,10 @@ const LOOKS: u32 = 8;
 pub enum PutFault<A: Allocator = Global> {
     /// 1: its push has 10,000 parts.
     #[error("the push has 10,000 parts")]
-    TooMany(BoxedPart<A>),
+    TooMany(SentPart<A>),
     /// 2: the queue was full at one moment of the call.
     #[error("the queue is full")]
-    Full(BoxedPart<A>),
+    Full(SentPart<A>),
 }
 
 impl<A: Allocator> fmt::Debug for PutFault<A> {
@@ -177,7 +178,7 @@ impl<J: Naming<A>, A: Allocator + Copy> Server<J, A> {
         &self,
         rt: &R,
         sender: &mut Sender<J, A>,
-        part: BoxedPart<A>,
+        part: SentPart<A>,
     ) -> Result<(), PutFault<A>>
         ensures { TriesPut J.capacity sender.old part result sender.new }
     {
@@ -196,9 +197,9 @@ impl<J: Naming<A>, A: Allocator + Copy> Server<J, A> {
         &self,
         rt: &R,
         sender: &mut Sender<J, A>,
-        part: BoxedPart<A>,
+        part: SentPart<A>,
         probe: &mut G,
-    ) -> Result<(), BoxedPart<A>>
+    ) -> Result<(), SentPart<A>>
         ensures { MatchResult result
             (λ _. PutsNext sender.old (a_part part) sender.new)
             (λ back. (back ≡ part) × GoesOn sender.old sender.new sender.old.putter.put

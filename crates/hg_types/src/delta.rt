@@ -4,6 +4,7 @@ ghost use Rattle.std.specs.Prelude.{◌≡◌, ◌↔◌, ◌++◌, drop, IfSome
 ghost use Rattle.sha1.specs.Sha1.{sha1};
 ghost use Rattle.hg_types.specs.Hashes.{IsHashOf};
 
+use crate::memory::{NoMemory, TryClone};
 use crate::node::Node;
 use crate::payload::TextHash;
 use crate::seq::Seq;
@@ -86,6 +87,13 @@ impl<A: Allocator> Delta<A> {
             return Some(tail.hash.digest);
         }
         None
+    }
+}
+
+/// A copy has the bytes, and no hash.
+impl<A: Allocator + Copy> TryClone<A> for Delta<A> {
+    fn try_clone(&self, alloc: A) -> Result<Self, NoMemory> {
+        Ok(Delta::of(self.bytes.try_clone(alloc)?))
     }
 }
 

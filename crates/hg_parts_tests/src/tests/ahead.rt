@@ -4,7 +4,11 @@ use super::*;
 use hg_parts::hash_ahead;
 
 /// What comes of a prepared part on a store. Where it is refused, it is gone back from.
-fn came_of_prepared(alloc: Global, held: &mut Held<Global>, prepared: Prepared<Global>) -> Came {
+pub fn came_of_prepared(
+    alloc: Global,
+    held: &mut Held<Global>,
+    prepared: Prepared<Global>,
+) -> Came {
     let savepoint = held.store.savepoint();
     let turn = Turn {
         settings: held.settings,
