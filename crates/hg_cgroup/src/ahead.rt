@@ -27,6 +27,7 @@ struct Placed {
 }
 
 /// A text that a changeset carries whole, and whether the first parent's id is the lesser.
+#[derive(Clone, Copy)]
 struct Whole {
     text: Text,
     is_ordered: bool,
@@ -39,17 +40,26 @@ struct Text {
     size: u32,
 }
 
-/// A walk over the changesets of a group: where the next one begins, and the text before it, if that was carried whole.
+/// What stands before a changeset: nothing of its group, a changeset that carries this text whole, or another one.
+#[derive(Clone, Copy)]
+enum Before {
+    Nothing,
+    Whole(Text),
+    Other,
+}
+
+/// A walk over the changesets of a group: where the next one begins, and what stands before it.
 #[derive(Drop)]
 struct Walk {
     at: u32,
-    before: Text,
+    before: Before,
 }
 
 /// Hashes the texts that a changegroup of version 02 carries whole, each after the ids of its parents, several side by
 /// side. [`decode`] finds these hashes then. A text is carried whole where its delta is on nothing, as a client of
-/// Mercurial sends most, or puts it in the place of all of the text before it, where that was carried whole. It ends
-/// at the first byte that is no changeset's. Where memory is refused, the rest have no hashes.
+/// Mercurial sends most, or puts it in the place of all of the text before it, where that was carried whole. The first
+/// changeset may be on a text that is not here: what its delta replaces is taken for all of that. It ends at the first
+/// byte that is no changeset's. Where memory is refused, the rest have no hashes.
 ///
 /// [`decode`]: crate::decode
 pub fn hash_texts<A: Allocator + Copy>(payload: &mut Payload<A>)
@@ -57,7 +67,7 @@ pub fn hash_texts<A: Allocator + Copy>(payload: &mut Payload<A>)
 {
     let mut walk = Walk {
         at: 0,
-        before: Text::NONE,
+        before: Before::Nothing,
     };
     let mut places = [NOWHERE; BATCH];
     'batches: for _ in 0..payload.len() {
@@ -97,31 +107,27 @@ impl Walk {
         'chunks: for _ in 0..bytes.len() {
             let Placed { from, to, whole } = changeset_at(bytes, self.at, &self.before)?;
             self.at = to;
-            match whole {
-                Some(whole) => {
-                    self.before = whole.text;
-                    return Some(whole.place(from, to));
-                }
-                None => self.before = Text::NONE,
+            self.before = Before::Other;
+            if let Some(whole) = whole {
+                self.before = Before::Whole(whole.text);
+                return Some(whole.place(from, to));
             }
         }
         None
     }
 }
 
-impl Text {
-    /// The text of no changeset.
-    const NONE: Text = Text {
-        node: Node::NULL,
-        size: 0,
-    };
-
-    /// The length of the text of that id, where that is this one or nothing.
-    fn size_of(&self, node: &Node) -> Option<u32> {
+impl Before {
+    /// Whether so many bytes are all of the text of that id. Of a text before the group, some bytes are taken for all.
+    fn is_all(&self, node: &Node, size: u32) -> bool {
         if *node == Node::NULL {
-            return Some(0);
+            return size == 0;
         }
-        (*node == self.node).then_some(self.size)
+        match self {
+            Before::Nothing => size > 0,
+            Before::Whole(text) => text.node == *node && text.size == size,
+            Before::Other => false,
+        }
     }
 }
 
@@ -140,8 +146,8 @@ impl Whole {
     }
 }
 
-/// The chunk of the changeset that begins at a place, after that text.
-fn changeset_at(bytes: &[u8], at: u32, before: &Text) -> Option<Placed> {
+/// The chunk of the changeset that begins at a place.
+fn changeset_at(bytes: &[u8], at: u32, before: &Before) -> Option<Placed> {
     let rest = bytes.get(at as usize..)?;
     match read_chunk(Version::V02.header_size(), rest) {
         Ok((Chunk::Content(content), after)) => Some(Placed {
@@ -153,8 +159,8 @@ fn changeset_at(bytes: &[u8], at: u32, before: &Text) -> Option<Placed> {
     }
 }
 
-/// The text of a changeset whose delta is one hunk on all of a text: on nothing, or on the text before it.
-fn whole_text(content: &[u8], before: &Text) -> Option<Whole> {
+/// The text of a changeset whose delta is one hunk on all of its base.
+fn whole_text(content: &[u8], before: &Before) -> Option<Whole> {
     if content.len() < Version::V02.header_size() {
         return None;
     }
@@ -163,25 +169,25 @@ fn whole_text(content: &[u8], before: &Text) -> Option<Whole> {
     let (p2, rest) = split_id(rest);
     let (base, rest) = split_id(rest);
     let (_link, delta) = split_id(rest);
-    let size = whole_size(before.size_of(&base)?, delta)?;
-    Some(Whole {
+    let (replaced, size) = one_hunk(delta)?;
+    before.is_all(&base, replaced).then_some(Whole {
         text: Text { node, size },
         is_ordered: p1 <= p2,
     })
 }
 
-/// The length of the text that a delta puts in the place of all of a text of so many bytes. It is one hunk, which ends
-/// with all of the text, or none where both are empty.
-fn whole_size(replaced: u32, delta: &[u8]) -> Option<u32> {
+/// How many bytes a delta takes away at its base's front, and how many it puts there, where it does that alone.
+fn one_hunk(delta: &[u8]) -> Option<(u32, u32)> {
     if delta.is_empty() {
-        return (replaced == 0).then_some(0);
+        return Some((0, 0));
     }
     let (hunk, text) = delta.split_first_chunk::<HUNK>()?;
     let [0, 0, 0, 0, e, f, g, h, a, b, c, d] = *hunk else {
         return None;
     };
-    let size = u32::from_be_bytes([a, b, c, d]);
-    let is_whole =
-        u32::from_be_bytes([e, f, g, h]) == replaced && size as usize == text.len();
-    is_whole.then_some(size)
+    let (replaced, size) = (
+        u32::from_be_bytes([e, f, g, h]),
+        u32::from_be_bytes([a, b, c, d]),
+    );
+    (size as usize == text.len()).then_some((replaced, size))
 }

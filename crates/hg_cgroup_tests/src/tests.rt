@@ -584,6 +584,41 @@ fn other_deltas_on_the_text_before_are_not_hashed(rt: HostRuntime) -> Result<(),
     Ok(())
 }
 
+// S as a delta on R, which is not in the group, in the place of one byte, and M as one on S. Result: both have the hash of
+// their text: what is replaced at a group's front is taken for all of the text.
+#[test]
+fn a_text_on_one_before_the_group_is_hashed(rt: HostRuntime) -> Result<(), Fail> {
+    let bytes = joined(
+        rt.alloc(),
+        &[
+            b"\0\0\0\x79".as_slice(),
+            S,
+            R,
+            Z,
+            R,
+            S,
+            b"\0\0\0\0\0\0\0\x01\0\0\0\x05whole",
+            b"\0\0\0\x78",
+            M,
+            R,
+            S,
+            S,
+            M,
+            b"\0\0\0\0\0\0\0\x05\0\0\0\x04both",
+            EMPTY,
+            EMPTY,
+            EMPTY,
+        ],
+    )?;
+    let mut payload = payload_of(rt, &bytes)?;
+    hash_texts(&mut payload);
+    for (number, id) in [S, M].iter().enumerate() {
+        let (hash, _) = payload.hashed(number).ok_or("a hash")?;
+        assert_eq!(rt; hash.digest, Node(**id));
+    }
+    Ok(())
+}
+
 // A group of R, carried whole, 63, 64, 65 and 130 times. Result: so many hashes.
 #[test]
 fn many_texts_are_hashed(rt: HostRuntime) -> Result<(), Fail> {
@@ -605,8 +640,8 @@ fn many_texts_are_hashed(rt: HostRuntime) -> Result<(), Fail> {
     Ok(())
 }
 
-// One changeset with the hunk (0, 0, 2) and one byte, (0, 1, 1) and (1, 1, 1), and one on another base. Result: none has a
-// hash.
+// One changeset with the hunk (0, 0, 2) and one byte, (0, 1, 1) and (1, 1, 1), and one before all of another base. Result:
+// none has a hash.
 #[test]
 fn other_deltas_are_not_hashed(rt: HostRuntime) -> Result<(), Fail> {
     for (base, hunk) in [
