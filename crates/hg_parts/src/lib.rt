@@ -22,7 +22,7 @@ mod table;
 mod turn;
 
 pub use handle::{handle_part, handle_prepared};
-pub use prepared::{Prepared, hash_ahead, hash_all_ahead, prepare};
+pub use prepared::{Prepared, hash_ahead, hash_several, hash_several_of_each, prepare};
 pub use refusal::{RaceText, Refusal};
 pub use source::Source;
 pub use store::{Store, StoreSavepoint};
