@@ -60,7 +60,7 @@ fn read_entry<A: Allocator + Copy>(
     })
 }
 
-/// The delta of these bytes, with the hash of a text where that is what one hunk puts in the place of nothing.
+/// The delta of these bytes, with the hash of a text where that is what its one hunk has.
 fn delta_of<A: Allocator>(
     alloc: A,
     bytes: Seq<u8, A>,

@@ -511,8 +511,137 @@ fn bytes_that_are_cut_are_hashed_as_far_as_they_go(rt: HostRuntime) -> Result<()
     Ok(())
 }
 
-// One changeset with the hunk (0, 0, 2) and one byte, (0, 1, 1) and (1, 1, 1), and one on another base. Result: none has a
-// hash.
+// In version 02 R, carried whole, S as a delta that puts its text in the place of all of R's, and M as one on S. Result:
+// each has the hash of its text, which is its id.
+#[test]
+fn texts_in_the_place_of_those_before_are_hashed(rt: HostRuntime) -> Result<(), Fail> {
+    let bytes = joined(
+        rt.alloc(),
+        &[
+            b"\0\0\0\x75".as_slice(),
+            R,
+            Z,
+            Z,
+            Z,
+            R,
+            ADD_R,
+            b"\0\0\0\x79",
+            S,
+            R,
+            Z,
+            R,
+            S,
+            b"\0\0\0\0\0\0\0\x01\0\0\0\x05whole",
+            b"\0\0\0\x78",
+            M,
+            R,
+            S,
+            S,
+            M,
+            b"\0\0\0\0\0\0\0\x05\0\0\0\x04both",
+            EMPTY,
+            EMPTY,
+            EMPTY,
+        ],
+    )?;
+    let mut payload = payload_of(rt, &bytes)?;
+    hash_texts(&mut payload);
+    for (number, id) in [R, S, M].iter().enumerate() {
+        let (hash, _) = payload.hashed(number).ok_or("a hash")?;
+        assert_eq!(rt; hash.digest, Node(**id));
+    }
+    let entries = decode(rt.alloc(), b"02", &payload).ok().ok_or("entries")?;
+    for entry in entries.as_slice() {
+        assert!(rt; entry.delta.is_hashed());
+    }
+    Ok(())
+}
+
+// R, carried whole, and S as a delta on R: its text before all of R's, in the place of two bytes, in the place of R's with
+// a byte too many, no hunk; and in the place of R's, with B between. Result: R alone has a hash.
+#[test]
+fn other_deltas_on_the_text_before_are_not_hashed(rt: HostRuntime) -> Result<(), Fail> {
+    let whole = joined(rt.alloc(), &[b"\0\0\0\x75", R, Z, Z, Z, R, ADD_R])?;
+    let other = joined(rt.alloc(), &[b"\0\0\0\x75", B, A, Z, A, B, SET_B])?;
+    for (between, size, hunk) in [
+        (b"".as_slice(), b"\0\0\0\x79".as_slice(), ADD_WHOLE),
+        (b"", b"\0\0\0\x79", b"\0\0\0\0\0\0\0\x02\0\0\0\x05whole"),
+        (b"", b"\0\0\0\x79", b"\0\0\0\0\0\0\0\x01\0\0\0\x04whole"),
+        (b"", b"\0\0\0\x68", b""),
+        (
+            other.as_slice(),
+            b"\0\0\0\x79",
+            b"\0\0\0\0\0\0\0\x01\0\0\0\x05whole",
+        ),
+    ] {
+        let pieces = [whole.as_slice(), between, size, S, R, Z, R, S, hunk];
+        let front = joined(rt.alloc(), &pieces)?;
+        let bytes = joined(rt.alloc(), &[front.as_slice(), EMPTY, EMPTY, EMPTY])?;
+        let mut payload = payload_of(rt, &bytes)?;
+        hash_texts(&mut payload);
+        assert!(rt; payload.hashed(0).is_some() && payload.hashed(1).is_none());
+    }
+    Ok(())
+}
+
+// S as a delta on R, which is not in the group, in the place of one byte, and M as one on S. Result: both have the hash of
+// their text: what is replaced at a group's front is taken for all of the text.
+#[test]
+fn a_text_on_one_before_the_group_is_hashed(rt: HostRuntime) -> Result<(), Fail> {
+    let bytes = joined(
+        rt.alloc(),
+        &[
+            b"\0\0\0\x79".as_slice(),
+            S,
+            R,
+            Z,
+            R,
+            S,
+            b"\0\0\0\0\0\0\0\x01\0\0\0\x05whole",
+            b"\0\0\0\x78",
+            M,
+            R,
+            S,
+            S,
+            M,
+            b"\0\0\0\0\0\0\0\x05\0\0\0\x04both",
+            EMPTY,
+            EMPTY,
+            EMPTY,
+        ],
+    )?;
+    let mut payload = payload_of(rt, &bytes)?;
+    hash_texts(&mut payload);
+    for (number, id) in [S, M].iter().enumerate() {
+        let (hash, _) = payload.hashed(number).ok_or("a hash")?;
+        assert_eq!(rt; hash.digest, Node(**id));
+    }
+    Ok(())
+}
+
+// A group of R, carried whole, 63, 64, 65 and 130 times. Result: so many hashes.
+#[test]
+fn many_texts_are_hashed(rt: HostRuntime) -> Result<(), Fail> {
+    let whole = joined(rt.alloc(), &[b"\0\0\0\x75", R, Z, Z, Z, R, ADD_R])?;
+    for count in [63, 64, 65, 130] {
+        let mut bytes = Vec::new(rt.alloc());
+        for _ in 0..count {
+            bytes.extend_from_slice(&whole)?;
+        }
+        bytes.extend_from_slice(EMPTY)?;
+        let mut payload = payload_of(rt, &bytes)?;
+        hash_texts(&mut payload);
+        for number in 0..count {
+            let (hash, _) = payload.hashed(number).ok_or("a hash")?;
+            assert_eq!(rt; hash.digest, Node(*R));
+        }
+        assert!(rt; payload.hashed(count).is_none());
+    }
+    Ok(())
+}
+
+// One changeset with the hunk (0, 0, 2) and one byte, (0, 1, 1) and (1, 1, 1), and one before all of another base. Result:
+// none has a hash.
 #[test]
 fn other_deltas_are_not_hashed(rt: HostRuntime) -> Result<(), Fail> {
     for (base, hunk) in [

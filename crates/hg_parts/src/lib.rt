@@ -29,7 +29,7 @@ mod turn;
 
 pub use handle::{handle_part, handle_prepared};
 pub use item::{CutReason, Item, Taken, What};
-pub use prepared::{Prepared, hash_ahead, hash_all_ahead, prepare};
+pub use prepared::{Prepared, hash_ahead, hash_several, hash_several_of_each, prepare};
 pub use refusal::{RaceText, Refusal};
 pub use sent::SentPart;
 pub use source::Source;

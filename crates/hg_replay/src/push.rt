@@ -9,7 +9,7 @@ ghost use Rattle.hg_replay.specs.Taking.{HasTaken, IsIdle, PushLeaves, PushTakes
 
 use crate::receiving::receive;
 use hg_connection::{BundleEnd, Reader, cut_of};
-use hg_parts::{Item, SentPart, What};
+use hg_parts::{Item, SentPart, What, hash_several};
 use hg_push::laws::closed_pushes_have_ended;
 use hg_push::{Book, Outcome};
 use hg_repo::{Done, Refusal};
@@ -87,7 +87,7 @@ fn step_parts<A: Allocator + Copy>(book: &mut Book<A>, push: u32, bundle: &mut U
 {
     let mut index = 0;
     while let Some(part) = bundle.next_part() {
-        let what = What::Part(SentPart::read_ahead(part));
+        let what = What::Part(SentPart::as_it_came(hash_several(part)));
         book.step(Item { push, index, what });
         index += 1;
     }

@@ -102,14 +102,6 @@ impl<A: Allocator> Payload<A> {
         self.bytes.len()
     }
 
-    /// Its allocator.
-    pub fn allocator(&self) -> A
-    where
-        A: Copy,
-    {
-        *self.bytes.allocator()
-    }
-
     /// Hashes two ids and a text, and keeps that for [`Payload::hashed`]. Where there are no such bytes, or memory is
     /// refused, nothing is kept.
     pub fn hash(&mut self, place: Place)
@@ -127,7 +119,8 @@ impl<A: Allocator> Payload<A> {
         A: Copy,
         ensures { self.new ≡ self.old }
     {
-        match hash_beside(self.allocator(), self.bytes.as_slice(), places) {
+        let alloc = *self.bytes.allocator();
+        match hash_beside(alloc, self.bytes.as_slice(), places) {
             Some(digests) => self.keep_each(places, &digests),
             None => {
                 'places: for place in places {

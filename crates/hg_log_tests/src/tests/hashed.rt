@@ -1,7 +1,7 @@
 //! Changesets whose delta has a hash that was made ahead.
 
 use super::*;
-use hg_types::Payload;
+use hg_types::{Payload, Place};
 
 /// The delta that makes a text of nothing, with the hash of two ids and another text beside it.
 fn hashed(alloc: Global, text: &[u8], ids: (Node, Node), other: &[u8]) -> Result<Delta, NoMemory> {
@@ -10,7 +10,12 @@ fn hashed(alloc: Global, text: &[u8], ids: (Node, Node), other: &[u8]) -> Result
     bytes.extend_from_slice(other)?;
     let end = u32::try_from(bytes.len()).unwrap_or(0);
     let mut payload = Payload::of(Seq::from_vec(bytes));
-    payload.hash(0, 20, 40, end);
+    payload.hash(Place {
+        first: 0,
+        second: 20,
+        from: 40,
+        to: end,
+    });
     let delta = whole(alloc, text)?;
     match payload.hashed(0) {
         Some((hash, known)) => Ok(Delta::with_hash(alloc, delta, 12, hash, known)),
