@@ -55,7 +55,7 @@ impl<A: Allocator + Copy> SentPart<A> {
         ensures { result ≡ part }
     {
         let part = hash_ahead(part);
-        let alloc = part.as_part().payload.allocator();
+        let alloc = part.allocator();
         match read_part(alloc, part.as_part()) {
             Ok(reading) => {
                 let sent = Noted::of(part.as_part());

@@ -49,6 +49,14 @@ impl<A: Allocator> BoxedPart<A> {
         Box::into_inner(block)
     }
 
+    /// Its allocator.
+    pub fn allocator(&self) -> A
+    where
+        A: Copy,
+    {
+        *Box::allocator(&self.block)
+    }
+
     /// Takes the payload out of the part, which has none then.
     pub fn take_payload(&mut self) -> Payload<A>
     where

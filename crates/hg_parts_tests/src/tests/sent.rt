@@ -89,23 +89,30 @@ fn parts_that_were_read_ahead(rt: HostRuntime) -> Result<(), Fail> {
     Ok(())
 }
 
-/// Whether a changegroup of one changeset over a heap of that size was read ahead. None where there was no memory for
-/// the part. Where it was not read, its payload is all there.
-fn is_read_over(rt: &HostRuntime, size: usize) -> Result<Option<bool>, Fail> {
-    let heap = LocalHeap::new(rt.alloc(), size)?;
-    let Ok(group) = group(&heap, &[child(NULL, NULL, b'b')]) else {
-        return Ok(None);
+/// What became of a part that was to be read ahead.
+#[derive(Clone, Copy, PartialEq, Eq)]
+enum Ahead {
+    /// There was no memory for the part.
+    NoPart,
+    /// It is as it came, all of it.
+    AsItCame,
+    Read,
+    Wrong,
+}
+
+/// What becomes of a changegroup of one changeset over a heap.
+fn ahead_over(heap: &LocalHeap) -> Ahead {
+    let Ok(group) = group(heap, &[child(NULL, NULL, b'b')]) else {
+        return Ahead::NoPart;
     };
     let length = group.payload.len();
-    let Ok(boxed) = BoxedPart::new(&heap, group) else {
-        return Ok(None);
+    let Ok(boxed) = BoxedPart::new(heap, group) else {
+        return Ahead::NoPart;
     };
     match SentPart::read_ahead(boxed).whole() {
-        None => Ok(Some(true)),
-        Some(part) => {
-            assert_eq!(rt; part.payload.len(), length);
-            Ok(Some(false))
-        }
+        None => Ahead::Read,
+        Some(part) if part.payload.len() == length => Ahead::AsItCame,
+        Some(_) => Ahead::Wrong,
     }
 }
 
@@ -114,14 +121,17 @@ fn is_read_over(rt: &HostRuntime, size: usize) -> Result<Option<bool>, Fail> {
 #[test]
 fn memory_is_refused_for_what_is_read(rt: HostRuntime) -> Result<(), Fail> {
     let mut seen = [false; 3];
+    let mut is_wrong = false;
     for sixteens in 1..256usize {
-        match is_read_over(&rt, sixteens * 16)? {
-            None => seen[0] = true,
-            Some(false) => seen[1] = true,
-            Some(true) => seen[2] = true,
+        let heap = LocalHeap::new(rt.alloc(), sixteens * 16)?;
+        match ahead_over(&heap) {
+            Ahead::NoPart => seen[0] = true,
+            Ahead::AsItCame => seen[1] = true,
+            Ahead::Read => seen[2] = true,
+            Ahead::Wrong => is_wrong = true,
         }
     }
-    assert!(rt; seen == [true; 3]);
+    assert!(rt; seen == [true; 3] && !is_wrong);
     Ok(())
 }
 
