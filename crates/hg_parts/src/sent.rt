@@ -38,7 +38,7 @@ impl<A: Allocator> Model for SentPart<A> {
     ghost invariant = { λ s. IsReadOf (part_in s.held s.sent.items) s.held };
 }
 
-impl<A: Allocator + Copy> SentPart<A> {
+impl<A: Allocator> SentPart<A> {
     /// The part as it came. It is read in its turn, and takes no memory before.
     pub fn as_it_came(part: BoxedPart<A>) -> Self
         ensures { result ≡ part }
@@ -49,6 +49,18 @@ impl<A: Allocator + Copy> SentPart<A> {
         }
     }
 
+    /// The part, where it is as it came.
+    pub fn whole(&self) -> Option<&Part<A>>
+        ensures { IfSome result (λ part. part.now ≡ self.now) }
+    {
+        match &self.held {
+            Held::AsItCame(part) => Some(part.as_part()),
+            Held::Read(_) => None,
+        }
+    }
+}
+
+impl<A: Allocator + Copy> SentPart<A> {
     /// Reads the part before its turn, and hashes the texts that it carries whole. Where memory is refused for what
     /// is read, the part stays as it came.
     pub fn read_ahead(part: BoxedPart<A>) -> Self
@@ -63,16 +75,6 @@ impl<A: Allocator + Copy> SentPart<A> {
                 SentPart { held, sent }
             }
             Err(NoMemory) => SentPart::as_it_came(part),
-        }
-    }
-
-    /// The part, where it is as it came.
-    pub fn whole(&self) -> Option<&Part<A>>
-        ensures { IfSome result (λ part. part.now ≡ self.now) }
-    {
-        match &self.held {
-            Held::AsItCame(part) => Some(part.as_part()),
-            Held::Read(_) => None,
         }
     }
 

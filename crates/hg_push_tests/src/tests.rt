@@ -63,7 +63,7 @@ fn part_with<A: Allocator + Copy>(
     BoxedPart::new(alloc, part)
 }
 
-fn a_part<A: Allocator + Copy>(push: u32, index: u32, part: BoxedPart<A>) -> Item<A> {
+fn a_part<A: Allocator>(push: u32, index: u32, part: BoxedPart<A>) -> Item<A> {
     Item {
         push,
         index,

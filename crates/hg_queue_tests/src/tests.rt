@@ -31,7 +31,7 @@ fn part<A: Allocator + Copy>(alloc: A, id: u32) -> Result<SentPart<A>, NoMemory>
 }
 
 // The id of a part that is as it came.
-fn id_of<A: Allocator + Copy>(part: &SentPart<A>) -> u32 {
+fn id_of<A: Allocator>(part: &SentPart<A>) -> u32 {
     match part.whole() {
         Some(part) => part.id,
         None => u32::MAX,
@@ -198,7 +198,7 @@ enum Kind {
     Cut(CutReason),
 }
 
-fn kind_of<A: Allocator + Copy>(what: &What<A>) -> Kind {
+fn kind_of<A: Allocator>(what: &What<A>) -> Kind {
     match what {
         What::Part(part) => Kind::Part(id_of(part)),
         What::End => Kind::End,
