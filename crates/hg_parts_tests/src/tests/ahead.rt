@@ -2,6 +2,7 @@
 
 use super::*;
 use hg_parts::{hash_ahead, hash_several, hash_several_of_each};
+use hg_types::TryClone;
 
 /// What comes of a prepared part on a store. Where it is refused, it is gone back from.
 fn came_of_prepared(alloc: Global, held: &mut Held<Global>, prepared: Prepared<Global>) -> Came {
