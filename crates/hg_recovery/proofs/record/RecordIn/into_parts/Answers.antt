@@ -15,7 +15,7 @@ returns-then-self-clause-err g c = λ first bytes taken. (
 pub returns-in-Ended-clause-ok : goal.returns-in-Ended-clause-ok
 returns-in-Ended-clause-ok g c = λ first bytes taken.
     subst (λ (parts : List (Part g.row.A.Denot)). IsBundle (limits_of first.bundle) bytes parts)
-    (sym c.in_ok-all_parts-in-Ended.ensures.parts)
+    (sym (c.hash_several_of_each.ensures ∙ c.in_ok-all_parts-in-Ended.ensures.parts))
     (bundle_taken first.bundle c.args.self.bundle taken.1 c.args.self.is_past bytes taken.0 c.if-self.false
     (sym c.state.ensures ∙ c.in-Ended.is))
 
