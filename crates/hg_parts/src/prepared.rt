@@ -2,7 +2,7 @@
 //!
 //! What a part's bytes say without the repository is read when the part comes: whether it is supported, and
 //! the payloads of `changegroup`, `phase-heads` and `obsmarkers`. A payload that was read is dropped, and the
-//! content of manifests and files with it; so is that of a part that is not supported or has a fault. All
+//! content of manifests and files with it: a short one by who prepares, later; so is that of a part that is not supported or has a fault. All
 //! other payloads stay, also those of `replycaps`, `output`, `pushkey` and `error:abort`, which nobody looks
 //! at. What is left is a [`Prepared`]. A fault that reading finds is kept there, and reported when the part's
 //! turn comes: a part before it may refuse the push for another reason.
@@ -15,6 +15,7 @@ ghost use Rattle.hg_parts.specs.Prepared.{is_read, is_replycaps, kept_with, read
 use crate::parts::changegroup::read_changegroup;
 use crate::parts::obsmarkers::{MarkerData, read_obsmarkers};
 use crate::parts::phase_heads::read_phase_heads;
+use crate::spent::Spent;
 use crate::table::{PartType, supported_type};
 use hg_cgroup::hash_texts;
 use hg_checks::CheckKind;
@@ -53,13 +54,17 @@ pub struct Prepared<A: Allocator = Global> {
     pub(crate) part: BoxedPart<A>,
 }
 
-/// Reads a part as far as that goes without the repository, and drops what was read.
+/// Reads a part as far as that goes without the repository. What was read is spent.
 #[tactic(auto, unfolding(crate::specs::Prepared::IsMadeOf))]
-pub fn prepare<A: Allocator + Copy>(alloc: A, part: BoxedPart<A>) -> Result<Prepared<A>, NoMemory>
+pub fn prepare<A: Allocator + Copy>(
+    alloc: A,
+    part: BoxedPart<A>,
+    spent: &mut Spent<A>,
+) -> Result<Prepared<A>, NoMemory>
     ensures { IfOk result (λ prepared. IsMadeOf part prepared) }
 {
     let reading = read_part(alloc, part.as_part())?;
-    Ok(keep(part, reading))
+    Ok(keep(part, reading, spent))
 }
 
 /// Hashes the texts that a part's payload carries whole, before the part's turn comes. The part is as it was:
@@ -91,11 +96,15 @@ impl<A: Allocator> Prepared<A> {
 }
 
 /// What is kept of a part that was read so.
-fn keep<A: Allocator + Copy>(mut part: BoxedPart<A>, reading: Reading<A>) -> Prepared<A>
+fn keep<A: Allocator + Copy>(
+    mut part: BoxedPart<A>,
+    reading: Reading<A>,
+    spent: &mut Spent<A>,
+) -> Prepared<A>
     ensures { result ≡ kept_with part reading }
 {
     if is_read(&reading) {
-        drop(part.take_payload());
+        spent.keep_payload(part.take_payload());
     }
     Prepared { reading, part }
 }

@@ -12,7 +12,7 @@ fn came_of_prepared(alloc: Global, held: &mut Held<Global>, prepared: Prepared<G
         replying: true,
         place: 0,
     };
-    match handle_prepared(alloc, &mut held.store, turn, prepared) {
+    match handle_prepared(alloc, &mut held.store, turn, prepared, &mut Spent::new()) {
         Ok(reply) => replied(&reply),
         Err(refusal) => {
             held.store.back_to(savepoint);
@@ -23,7 +23,8 @@ fn came_of_prepared(alloc: Global, held: &mut Held<Global>, prepared: Prepared<G
 
 /// A part, prepared when its texts were hashed ahead.
 fn prepared_ahead(alloc: Global, part: Part) -> Result<Prepared, NoMemory> {
-    prepare(alloc, hash_ahead(BoxedPart::new(alloc, part)?))
+    let part = BoxedPart::new(alloc, part)?;
+    prepare(alloc, hash_ahead(part), &mut Spent::new())
 }
 
 /// What comes of it on a store.

@@ -30,7 +30,7 @@ fn is_prepared(alloc: Global, kind: &[u8], payload: Seq<u8>, length: usize) -> b
     match long_part(alloc, kind, payload) {
         Ok(part) => {
             let is_long = part.as_part().payload.len() == length;
-            prepare(alloc, part).is_ok() && is_long
+            prepare(alloc, part, &mut Spent::new()).is_ok() && is_long
         }
         Err(_) => false,
     }

@@ -2,7 +2,7 @@
 //! prepared.
 
 use super::*;
-use hg_repo::{Prepared, prepare};
+use hg_repo::{Prepared, Spent, prepare};
 use hg_types::{Pages, Short};
 
 /// The id of the changeset of the empty text without parents.
@@ -60,7 +60,8 @@ fn prepared_list<A: Allocator + Copy>(
 ) -> Result<Pages<Prepared<A>, A>, NoMemory> {
     let mut list = Pages::new(alloc);
     for part in parts.into_vec() {
-        list.push(prepare(alloc, BoxedPart::new(alloc, part)?)?)?;
+        let part = BoxedPart::new(alloc, part)?;
+        list.push(prepare(alloc, part, &mut Spent::new())?)?;
     }
     Ok(list)
 }
@@ -76,7 +77,7 @@ fn answer_to_prepared<A: Allocator + Copy>(
         return Some(false);
     }
     let mut repo = Repo::new(alloc, settings(), state);
-    let answer = repo.run_prepared(Source::Push, prepared);
+    let answer = repo.run_prepared(Source::Push, prepared, &mut Spent::new());
     let told = is_expected(&answer, expected);
     drop(answer);
     drop(repo);
@@ -163,7 +164,7 @@ fn taken_and_kept(heap: &LocalHeap, content: &[u8]) -> Option<(usize, usize)> {
     let free = heap.free();
     let part = large_group(heap, content).ok()?;
     let taken = free.saturating_sub(heap.free());
-    let _prepared = prepare(heap, part).ok()?;
+    let _prepared = prepare(heap, part, &mut Spent::new()).ok()?;
     Some((taken, free.saturating_sub(heap.free())))
 }
 
@@ -195,7 +196,7 @@ fn prepare_in(heap: &LocalHeap) -> First {
     let Ok(part) = whole_group(heap) else {
         return First::Early;
     };
-    match prepare(heap, part) {
+    match prepare(heap, part, &mut Spent::new()) {
         Ok(_) => First::Prepared,
         Err(NoMemory) => First::Refused,
     }
