@@ -64,7 +64,7 @@ pub holds_opened : {A R D E : Type 0} (run : Running A R D E) (first : R) (h : H
     (b new : Book A R D E) → b.first_push ≤ b.next → AreRows (is_between b.first_push b.next) b.rows
     → Opens b b.next new → HoldsHistory run first h b → HoldsHistory run first h new
 holds_opened {A} {R} {D} {E} run first h b new order are opens holds =
-    let row : Row D E A = record { push = b.next; state = Open []; place = tt } in
+    let row : Row D E A = record { push = b.next; state = Open [] } in
     let grown : Book A R D E = record b { next = b.next + 1; rows = b.rows ++ row ∷ [] } in
     let fresh : is_opened b b.next ≡ false = not_yet b.first_push b.next in
     let none : row_of b.next b.rows ≡ None = no_row (is_between b.first_push b.next) b.next b.rows _ are fresh
@@ -143,9 +143,9 @@ room_last rows new r len cap places same count room =
     ))
 
 same_row : {A D E : Type 0} (r : Row D E A) (push : ℕ) (state : State D E A) → r.push ≡ push → r.state ≡ state
-    → r ≡ record { push = push; state = state; place = tt }
+    → r ≡ record { push = push; state = state }
 same_row {A} {D} {E} r push state p s =
-    ap (λ (t : ℕ × State D E A). record { push = t.0; state = t.1; place = tt }) (pair p s)
+    ap (λ (t : ℕ × State D E A). record { push = t.0; state = t.1 }) (pair p s)
 
 same_book : {A R D E : Type 0} (new : Book A R D E) (repo : R) (journal : List ℕ) (first next limit : ℕ)
     (rows : List (Row D E A)) → new.repo ≡ repo → new.journal ≡ journal → new.first_push ≡ first
@@ -174,7 +174,7 @@ pub opens_from : {A R D E : Type 0} (b new : Book A R D E) (r : Row D E A) → n
     → new.journal ≡ b.journal → new.first_push ≡ b.first_push → new.next ≡ b.next + 1 → new.limit ≡ b.limit
     → r.push ≡ b.next → r.state ≡ Open [] → new.rows ≡ b.rows ++ r ∷ [] → Opens b b.next new
 opens_from {A} {R} {D} {E} b new r repo journal first next limit push state rows =
-    let row : r ≡ record { push = b.next; state = Open []; place = tt } = same_row r b.next (Open []) push state in (
+    let row : r ≡ record { push = b.next; state = Open [] } = same_row r b.next (Open []) push state in (
       refl,
       same_book new b.repo b.journal b.first_push (b.next + 1) b.limit _ repo journal first next limit
           (rows ∙ ap (λ x. b.rows ++ x ∷ []) row),

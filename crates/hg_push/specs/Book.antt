@@ -51,7 +51,7 @@ stepped b item refused h = if is_opened b item.push then record { item = item; r
 abbrev pub Opens : {A R D E : Type 0} → Book A R D E → ℕ → Book A R D E → Type 0
 Opens old p new =
     (p ≡ old.next)
-    × (new ≡ record old { next = old.next + 1; rows = old.rows ++ record { push = p; state = Open []; place = tt } ∷ [] })
+    × (new ≡ record old { next = old.next + 1; rows = old.rows ++ record { push = p; state = Open [] } ∷ [] })
 
 -- the same pushes are opened, and the same of them have rows
 pub record IsSameOpenings {A R D E : Type 0} (old new : Book A R D E) : Type 0 where

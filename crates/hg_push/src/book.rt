@@ -11,9 +11,9 @@ ghost use Rattle.hg_push.specs.Reply.{CanBeTold};
 ghost use Rattle.hg_push.specs.Places.{TellsPlace};
 ghost use Rattle.hg_push.specs.Run.{RepositoryOf, run_push};
 
-use crate::journal::place_near;
+use crate::journal::{Places, place_of_push};
 use crate::outcome::{Outcome, Standing};
-use crate::row::{Guess, Row, State};
+use crate::row::{Row, State};
 use crate::step::{
     closed_place, has_push, open_place, outcome_of, place_of, row_standing, step_row,
 };
@@ -45,11 +45,10 @@ pub struct Book<A: Allocator = Global> {
     repo: Repo<A>,
     journal: Vec<u32, A>,
     rows: VecDeque<Row<Done<A>, Refusal<A>, A>, A>,
-    /// What the row kept whose reply was taken last.
-    answered: Guess,
     first_push: u32,
     next: u32,
     limit: u32,
+    places: Places,
 }
 
 impl<A: Allocator> Model for Book<A> {
@@ -100,10 +99,10 @@ impl<A: Allocator + Copy> Book<A> {
             repo,
             journal: Vec::new(alloc),
             rows: VecDeque::new(alloc),
-            answered: Guess::of(0),
             first_push,
             next: first_push,
             limit,
+            places: Places::new(),
         }
     }
 
@@ -156,7 +155,6 @@ impl<A: Allocator + Copy> Book<A> {
         let row = Row {
             push,
             state: State::Open(Pages::new(alloc)),
-            place: Guess::of(0),
         };
         if let Err(_) = self.rows.push_back(row) {
             return Err(OpenFault::NoMemory);
@@ -189,6 +187,7 @@ impl<A: Allocator + Copy> Book<A> {
         step_row(
             &mut self.repo,
             &mut self.journal,
+            &mut self.places,
             row,
             index,
             what,
@@ -213,22 +212,19 @@ impl<A: Allocator + Copy> Book<A> {
     {
         let at = closed_place(&self.rows, push)?;
         match self.rows.remove(at) {
-            Some(row) => {
-                self.answered = row.place;
-                Some(outcome_of(row))
-            }
+            Some(row) => Some(outcome_of(row)),
             None => unreachable!(),
         }
     }
 
     /// The place of a push in the journal: how many pushes were done before it. `None` where it is not done.
-    /// Of the push whose reply was taken last, its row kept the place. For any other the journal is searched from
-    /// its end, so the search is as long as pushes were done since.
+    /// It is one look, unless a push was done since whose number differs from its own by a multiple of 1,024: then
+    /// the journal is searched from its end, as long as pushes were done since.
     pub fn place(&self, push: u32) -> Option<usize>
         ensures { (first : RepositoryOf A) (h : History A) → HoldsHistory run_push first h self.now →
             TellsPlace run_push first h push result }
     {
-        place_near(self.journal.as_slice(), push, self.answered)
+        place_of_push(self.journal.as_slice(), push, &self.places)
     }
 
     /// The numbers of the done pushes, in the order in which they were done.

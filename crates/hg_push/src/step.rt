@@ -18,8 +18,9 @@ ghost use Rattle.hg_push.specs.code.Rows.{staged_in, standing_in};
 ghost use Rattle.hg_push.specs.Run.{RepositoryOf, run_push};
 ghost use Rattle.hg_push.specs.Reply.{CanBeSent, KeepsTellable};
 
+use crate::journal::Places;
 use crate::outcome::{Outcome, Reason, Standing};
-use crate::row::{Guess, Row, State};
+use crate::row::{Row, State};
 use hg_repo::{Done, Prepared, Refusal, Repo, Source, Spent, prepare};
 use hg_types::{BoxedPart, NoMemory, Pages, What};
 use std::alloc::Allocator;
@@ -232,6 +233,7 @@ fn is_no_memory<A: Allocator>(reason: &Reason<Refusal<A>>) -> bool
 fn finish<A: Allocator + Copy>(
     repo: &mut Repo<A>,
     journal: &mut Vec<u32, A>,
+    places: &mut Places,
     row: &mut Row<Done<A>, Refusal<A>, A>,
     index: u32,
     spent: &mut Spent<A>,
@@ -250,7 +252,7 @@ fn finish<A: Allocator + Copy>(
     let ended = end(repo, staged, index, spent);
     match ended {
         Ok(done) => {
-            row.place = Guess::of(journal.len());
+            places.keep(row.push, journal.len());
             journal.push_reserved(row.push);
             close(row, Outcome::Done(done), spent);
             false
@@ -269,6 +271,7 @@ fn finish<A: Allocator + Copy>(
 pub fn step_row<A: Allocator + Copy>(
     repo: &mut Repo<A>,
     journal: &mut Vec<u32, A>,
+    places: &mut Places,
     row: &mut Row<Done<A>, Refusal<A>, A>,
     index: u32,
     what: What<A>,
@@ -289,6 +292,6 @@ pub fn step_row<A: Allocator + Copy>(
             close(row, Outcome::Aborted(Reason::Cut(reason)), spent);
             false
         }
-        What::End => finish(repo, journal, row, index, spent),
+        What::End => finish(repo, journal, places, row, index, spent),
     }
 }

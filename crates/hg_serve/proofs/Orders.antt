@@ -135,7 +135,7 @@ map_end f (y ∷ ys) x = ap (λ l. f y ∷ l) (map_end f ys x)
 
 pub opens_rows : {A : Type 0} (b new : BookOf A) (n : ℕ) → Opens b n new → rows_of new ≡ rows_of b ++ n ∷ []
 opens_rows {A} b new n o = ap (λ (c : BookOf A). rows_of c) o.1
-    ∙ map_end (λ (r : Row (Done A) (Refusal A) A). r.push) b.rows (record { push = n; state = Open []; place = tt })
+    ∙ map_end (λ (r : Row (Done A) (Refusal A) A). r.push) b.rows (record { push = n; state = Open [] })
 
 between_more : (first next p : ℕ) → is_between first next p ≡ true → is_between first (next + 1) p ≡ true
 between_more first next p e = grind (arith, nat_tests, e)

@@ -48,7 +48,10 @@ fn what_is_left_over(rt: HostRuntime) -> Result<(), Fail> {
     let one = given_back(&heap, state, 1);
     assert!(rt; one.is_some_and(|back| back >= 176), "{one:?}");
     let twenty = given_back(&heap, state, 20);
-    assert!(rt; twenty.is_some_and(|back| back >= 12 * 176 && back < 20 * 176), "{twenty:?}");
+    assert!(rt;
+        twenty.is_some_and(|back| back >= 12 * 176 && back < 20 * 176),
+        "{twenty:?}"
+    );
     Ok(())
 }
 

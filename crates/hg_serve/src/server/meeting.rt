@@ -32,13 +32,9 @@ impl<J: Naming<A>, A: Allocator + Copy> Server<J, A> {
             result.1 }
     {
         let mut spent = Spent::new();
-        let answered = self.lock(rt, &mut ended.pauses).answer_resting(
-            rt,
-            &self.queue,
-            ended,
-            &mut spent,
-            probe,
-        );
+        let answered = self
+            .lock(rt, &mut ended.pauses)
+            .answer_resting(rt, &self.queue, ended, &mut spent, probe);
         probe.at(Point::Answered);
         answered
     }

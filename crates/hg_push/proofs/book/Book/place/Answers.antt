@@ -7,6 +7,6 @@ use Rattle.hg_push.proofs.book.Book.place.Goals as goal
 pub returns : goal.returns
 returns g c = λ first h holds.
     tells_place run_push first h _ c.args.push (subst (λ b. HoldsHistory run_push first h b) (sym c.self.view_is) holds)
-    c.place_near.result
-    (rw c.as_slice.ensures.value at c.place_near.ensures.none)
-    (rw c.as_slice.ensures.value at c.place_near.ensures.some)
+    c.place_of_push.result
+    (rw c.as_slice.ensures.value at c.place_of_push.ensures.none)
+    (rw c.as_slice.ensures.value at c.place_of_push.ensures.some)
