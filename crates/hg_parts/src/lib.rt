@@ -23,6 +23,7 @@ mod refusal;
 mod replies;
 mod sent;
 mod source;
+mod spent;
 mod store;
 mod table;
 mod turn;
@@ -33,6 +34,7 @@ pub use prepared::{Prepared, hash_ahead, hash_several, hash_several_of_each, pre
 pub use refusal::{RaceText, Refusal};
 pub use sent::SentPart;
 pub use source::Source;
+pub use spent::Spent;
 pub use store::{Store, StoreSavepoint};
 pub use table::starts_replies;
 pub use turn::Turn;

@@ -11,7 +11,7 @@ ghost use Rattle.hg_parts.specs.Store.{IsSound};
 
 use hg_log::node_id;
 use hg_parts::{
-    Prepared, RaceText, Refusal, Source, Store, Turn, handle_part, handle_prepared, prepare,
+    Prepared, RaceText, Refusal, Source, Spent, Store, Turn, handle_part, handle_prepared, prepare,
     starts_replies,
 };
 use hg_types::{
@@ -319,7 +319,7 @@ fn came_on(
         replying: true,
         place: 0,
     };
-    let answer = handle_prepared(alloc, &mut store, turn, prepared);
+    let answer = handle_prepared(alloc, &mut store, turn, prepared, &mut Spent::new());
     let came = came_of(&answer);
     let rows = store.log.len();
     drop(answer);
@@ -344,7 +344,7 @@ fn came_on_clone(
 fn cloned(alloc: Global, state: RandomState) -> Result<bool, NoMemory> {
     let seed = group(alloc, &[root(ROOT)])?;
     let push = group(alloc, &[child(ROOT, NULL, b'b')])?;
-    let prepared = prepare(alloc, BoxedPart::new(alloc, push)?)?;
+    let prepared = prepare(alloc, BoxedPart::new(alloc, push)?, &mut Spent::new())?;
     let mut held = empty(alloc, state, false);
     let first = run(alloc, &mut held, Source::Push, &seed);
     let came = came_on_clone(alloc, &held, prepared);
@@ -559,7 +559,7 @@ fn one_part_alone(rt: HostRuntime) -> Result<(), Fail> {
 fn starts(alloc: Global, kind: &[u8], key: &[u8]) -> Result<(bool, bool), NoMemory> {
     let part = part(alloc, kind, key, b"", b"")?;
     let starts = starts_replies(&part);
-    let prepared = prepare(alloc, BoxedPart::new(alloc, part)?)?;
+    let prepared = prepare(alloc, BoxedPart::new(alloc, part)?, &mut Spent::new())?;
     Ok((starts, prepared.starts_replies()))
 }
 

@@ -23,7 +23,7 @@ use crate::probe::{Point, Probe};
 use hg_parts::{CutReason, SentPart};
 use hg_push::OpenFault;
 use hg_queue::{Full, Mark, PartQueue, Taker};
-use hg_repo::Repo;
+use hg_repo::{Repo, Spent};
 use hg_types::{Limits, NoMemory};
 use std::alloc::{Allocator, Global};
 use std::fmt;
@@ -285,7 +285,8 @@ impl<J: Naming<A>, A: Allocator + Copy> Server<J, A> {
     }
 
     /// Takes until the push is closed, and says how it ended. Its client has then seen the whole history,
-    /// by which the push ended so. The lock is held for the takes, and for nothing else.
+    /// by which the push ended so. The lock is held for the takes, and for nothing else: what they leave over is
+    /// dropped behind it.
     pub fn answer<R: Wait, G: Probe>(
         &self,
         rt: &R,
@@ -295,9 +296,10 @@ impl<J: Naming<A>, A: Allocator + Copy> Server<J, A> {
         ensures { Answers J.capacity J.first ended.push ended.put ended.history
             result.0.outcome result.0.takes result.1 }
     {
+        let mut spent = Spent::new();
         let answered = self
             .lock(rt, &mut ended.pauses)
-            .answer(rt, &self.queue, ended, probe);
+            .answer(rt, &self.queue, ended, &mut spent, probe);
         probe.at(Point::Answered);
         answered
     }
@@ -307,11 +309,12 @@ impl<J: Naming<A>, A: Allocator + Copy> Server<J, A> {
         self.turn_for(rt, &mut Pauses::none(), probe)
     }
 
-    /// The same, for a connection that has learned so many pauses.
+    /// The same, for a connection that has learned so many pauses. What is left over is dropped behind the lock.
     fn turn_for<R: Wait, G: Probe>(&self, rt: &R, pauses: &mut Pauses, probe: &mut G) -> bool {
+        let mut spent = Spent::new();
         let mut desk = self.lock(rt, pauses);
         probe.at(Point::Locked);
-        desk.turn(rt, &self.queue)
+        desk.turn(rt, &self.queue, &mut spent)
     }
 
     /// The repository and the journal of the whole history, which is one that could have happened and goes on

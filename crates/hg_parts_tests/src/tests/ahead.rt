@@ -17,7 +17,7 @@ pub fn came_of_prepared(
         replying: true,
         place: 0,
     };
-    match handle_prepared(alloc, &mut held.store, turn, prepared) {
+    match handle_prepared(alloc, &mut held.store, turn, prepared, &mut Spent::new()) {
         Ok(reply) => replied(&reply),
         Err(refusal) => {
             held.store.back_to(savepoint);
@@ -28,7 +28,8 @@ pub fn came_of_prepared(
 
 /// A part, prepared when its texts were hashed ahead.
 fn prepared_ahead(alloc: Global, part: Part) -> Result<Prepared, NoMemory> {
-    prepare(alloc, hash_ahead(BoxedPart::new(alloc, part)?))
+    let part = BoxedPart::new(alloc, part)?;
+    prepare(alloc, hash_ahead(part))
 }
 
 /// What comes of it on a store.

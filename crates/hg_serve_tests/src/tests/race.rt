@@ -4,6 +4,7 @@
 use super::*;
 use hg_parts::{Item, What};
 use hg_push::{Book, Standing};
+use hg_repo::Spent;
 use hg_types::{Param, Short};
 
 /// The ids of the changesets without parents whose text is `a`, and `b`: SHA-1 of 40 zeros and the letter.
@@ -149,7 +150,7 @@ fn two_roots_through_a_book(rt: HostRuntime) -> Result<(), Fail> {
     ];
     let mut kept = opened;
     for (push, index, what) in items {
-        kept = !book.step(Item { push, index, what }) && kept;
+        kept = !book.step(Item { push, index, what }, &mut Spent::new()) && kept;
     }
     let told = book.standing(0) == Standing::Aborted && book.standing(1) == Standing::Done;
     let (repo, journal) = book.into_parts();
