@@ -9,7 +9,8 @@ use Rattle.hg_log.specs.Parents.{rev_of}
 use Rattle.hg_log.specs.Rows.{HasText}
 use Rattle.hg_sizes.specs.declared.weighing.Excess.{Excess}
 use Rattle.hg_sizes.specs.declared.weighing.Excess.TheVariants.{UnknownBases}
-use Rattle.hg_sizes.specs.Bases.{base_text, excess_of_unknown, most_unknown, one_unknown, row_text, text_at, unknown_behind, with_entry}
+use Rattle.hg_sizes.specs.Bases.{base_text, excess_of_unknown, most_unknown, one_unknown, row_text}
+use Rattle.hg_sizes.specs.Bases.{text_at, unknown_behind, with_entry}
 
 -- the text of the row with that id
 pub text_of_row : (rows : List Changeset) (node : List ℕ) (rev : ℕ) (text : List ℕ) → Some rev ≡ rev_of rows node →
@@ -33,8 +34,8 @@ pub one_at_most : (text : Option (List ℕ)) → one_unknown text ≤ 1
 one_at_most None = omega arith
 one_at_most (Some text) = omega arith
 
-module _ {A : Type 0} (most : ℕ) (rows : List Changeset) (texts : Node → Option (Option (List ℕ))) (entries others : List (Entry A))
-    (entry : Entry A)
+module _ {A : Type 0} (most : ℕ) (rows : List Changeset) (texts : Node → Option (Option (List ℕ)))
+    (entries others : List (Entry A)) (entry : Entry A)
   where
     -- the first changeset is counted
     pub counts_first : (others_texts : Node → Option (Option (List ℕ))) (one : ℕ) → entries ≡ entry ∷ others →
