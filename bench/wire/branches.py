@@ -7,11 +7,11 @@ import os
 import sys
 
 sys.path.insert(0, os.path.join(os.path.dirname(os.path.realpath(__file__)), "..", "..", "tests"))
-from reads import SHAPES, longest, measure, merged  # noqa: E402
+from reads import SHAPES, longest, measure  # noqa: E402
 
-MAKERS = {name: make for name, (make, _) in SHAPES.items()} | {"merged": merged}
-ROWS = [("lone", 20_000), ("lone", 40_000), ("lone", 80_000), ("merged", 10_000), ("merged", 20_000), ("line", 200_000),
-        ("fan", 200_000), ("under", 200_000)]
+MAKERS = {name: make for name, (make, _) in SHAPES.items()}
+ROWS = [("lone", 20_000), ("lone", 40_000), ("lone", 80_000), ("merged", 10_000), ("merged", 20_000), ("merged", 50_000),
+        ("twice", 20_000), ("twice", 50_000), ("twice", 100_000), ("line", 200_000), ("fan", 200_000), ("under", 200_000)]
 
 
 def main(words):

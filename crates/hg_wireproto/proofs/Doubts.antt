@@ -25,7 +25,7 @@ use Rattle.hg_wireproto.specs.code.Branches.{branch_at, heads_in, is_last_in, me
 use Rattle.hg_wireproto.specs.code.Covered.{IsOwnParent}
 use Rattle.hg_wireproto.specs.code.Doubt.{AreAllTold, AreCandidates, AreLeftOut, HasNoOwnChild, IsKin}
 use Rattle.hg_wireproto.specs.code.Hiding.{TellsKept}
-use Rattle.hg_wireproto.proofs.BranchSets.{any_found, both_true, not_eq}
+use Rattle.hg_wireproto.proofs.LastRows.{any_found, both_true, not_eq}
 use Rattle.hg_wireproto.proofs.Covering.{branch_is, is_of}
 use Rattle.hg_wireproto.proofs.Gathering.{ancestor_within}
 use Rattle.hg_wireproto.proofs.Hiding.{pushed_before, pushed_here}
@@ -306,18 +306,17 @@ all_rest {X} P xs rest x is all k d low =
 pub all_heads : {X : Type 0} (rows : List Changeset) (seen : X → List ℕ × List ℕ) (bs ds slice : List X)
     (none heads more final : List ℕ) → none ≡ []
     → HaveSame (heads ++ flat_map (λ b. heads_in rows (seen b).1) ds) (none ++ flat_map (λ b. heads_in rows (seen b).1) bs)
-    → slice ≡ ds → more ≡ heads ++ flat_map (λ b. heads_in rows (seen b).1) slice → final ≡ more
+    → slice ≡ ds → HaveSame more (heads ++ flat_map (λ b. heads_in rows (seen b).1) slice) → final ≡ more
     → HaveSame final (flat_map (λ e. heads_in rows e.1) (map seen bs))
 all_heads {X} rows seen bs ds slice none heads more final empty held same put last =
     let line = λ (b : X). heads_in rows (seen b).1 in
-    let front : final ≡ heads ++ flat_map line ds =
-    last ∙ put ∙ ap (λ (xs : List X). heads ++ flat_map line xs) same in
+    let front = subst (λ (xs : List X). HaveSame more (heads ++ flat_map line xs)) same put in
     let back : none ++ flat_map line bs ≡ flat_map (λ (e : List ℕ × List ℕ). heads_in rows e.1) (map seen bs) =
     ap (λ (xs : List ℕ). xs ++ flat_map line bs) empty
     ∙ sym (flat_map-map (λ (e : List ℕ × List ℕ). heads_in rows e.1) seen bs) in
     λ r. (
       λ has. subst (λ (xs : List ℕ). Contains xs r) back
-          ((held r).0 (subst (λ (xs : List ℕ). Contains xs r) front has)),
-      λ has. subst (λ (xs : List ℕ). Contains xs r) (sym front)
-          ((held r).1 (subst (λ (xs : List ℕ). Contains xs r) (sym back) has)),
+          ((held r).0 ((front r).0 (subst (λ (xs : List ℕ). Contains xs r) last has))),
+      λ has. subst (λ (xs : List ℕ). Contains xs r) (sym last)
+          ((front r).1 ((held r).1 (subst (λ (xs : List ℕ). Contains xs r) (sym back) has))),
     )

@@ -24,7 +24,7 @@ none_more [] (suc r) none = refl
 none_more (x ∷ xs) zero none = none zero
 none_more (x ∷ xs) (suc r) none = none_more xs r (λ k. none (suc k))
 
-either : (a b k : ℕ) → bit_at (bit_or a b) k ≡ 1 → (bit_at a k ≡ 1) ⊎ (bit_at b k ≡ 1)
+pub either : (a b k : ℕ) → bit_at (bit_or a b) k ≡ 1 → (bit_at a k ≡ 1) ⊎ (bit_at b k ≡ 1)
 either a b k is =
     let whole = bit_at_or a b k in
     elim (cases_eq (bit_at a k) 1) [
@@ -32,7 +32,7 @@ either a b k is =
       | inr not_a ↦ inr (omega (arith, whole, is, not_a, bit_at-lt a k, bit_at-lt b k))
     ]
 
-both : (a b k : ℕ) → (bit_at a k ≡ 1) ⊎ (bit_at b k ≡ 1) → bit_at (bit_or a b) k ≡ 1
+pub both : (a b k : ℕ) → (bit_at a k ≡ 1) ⊎ (bit_at b k ≡ 1) → bit_at (bit_or a b) k ≡ 1
 both a b k (inl is) = omega (arith, bit_at_or a b k, is, bit_at-lt a k, bit_at-lt b k)
 both a b k (inr is) = omega (arith, bit_at_or a b k, is, bit_at-lt a k, bit_at-lt b k)
 

@@ -13,7 +13,7 @@ mod Hiding
 mod Keeping
 mod Quoting
 mod Branching
-mod BranchSets
+mod LastRows
 mod BranchLines
 mod Mapping
 mod Viewing
@@ -27,3 +27,6 @@ mod HeadIds
 mod OrderedIds
 pub mod Publishing
 mod LookedUp
+mod NumberSets
+mod Searching
+mod Apart

@@ -33,7 +33,7 @@ use Rattle.hg_wireproto.specs.code.Covered.{AreCovered}
 use Rattle.hg_wireproto.specs.code.Doubt.{AreCandidates}
 use Rattle.hg_wireproto.proofs.Branching.{name_same, same_name}
 use Rattle.hg_wireproto.proofs.Covering.{branch_is, is_of}
-use Rattle.hg_wireproto.proofs.BranchSets.{any_found, any_holds, both_true, eq_not, not_eq, true_both}
+use Rattle.hg_wireproto.proofs.LastRows.{any_found, any_holds, both_true, eq_not, not_eq, true_both}
 
 -- ---- lists
 
@@ -55,7 +55,7 @@ has_filter {X} test (y ∷ ys) x has is = elim (Contains-append_cases (y ∷ [])
     by true later = Contains-append_right (y ∷ []) (filter test ys) x later
     by false later = later
 
-filter_has : {X : Type 0} (test : X → Bool) (xs : List X) (x : X) → Contains (filter test xs) x
+pub filter_has : {X : Type 0} (test : X → Bool) (xs : List X) (x : X) → Contains (filter test xs) x
     → Contains xs x × (test x ≡ true)
 filter_has test xs x has = (
   All-contains (Contains xs) (filter test xs) x (All-filter test (Contains xs) xs (All-contains_itself xs)) has,
@@ -101,14 +101,14 @@ not_true true e = cc
 not_true false e = refl
 
 -- what is in one of the lists is in all of them together
-flat_has : {X : Type 0} (f : X → List ℕ) (xs : List X) (i : ℕ) (d : X) (r : ℕ) → i < length xs
+pub flat_has : {X : Type 0} (f : X → List ℕ) (xs : List X) (i : ℕ) (d : X) (r : ℕ) → i < length xs
     → Contains (f (get_or xs i d)) r → Contains (flat_map f xs) r
 flat_has f [] i d r low has = absurd (omega (arith, low))
 flat_has f (x ∷ xs) zero d r low has = Contains-append_left (f x) (flat_map f xs) r has
 flat_has f (x ∷ xs) (suc i) d r low has =
     Contains-append_right (f x) (flat_map f xs) r (flat_has f xs i d r (omega (arith, low)) has)
 
-has_flat : {X : Type 0} (f : X → List ℕ) (xs : List X) (r : ℕ) → Contains (flat_map f xs) r
+pub has_flat : {X : Type 0} (f : X → List ℕ) (xs : List X) (r : ℕ) → Contains (flat_map f xs) r
     → (i : ℕ) × (d : X) × (i < length xs) × Contains (f (get_or xs i d)) r
 has_flat f [] r has = absurd (omega (arith, has.1))
 has_flat f (x ∷ xs) r has = elim (Contains-append_cases (f x) (flat_map f xs) r has) [

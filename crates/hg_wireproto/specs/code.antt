@@ -10,3 +10,5 @@ pub mod Kept
 pub mod Spellings
 pub mod Settled
 pub mod Standing
+pub mod Sets
+pub mod Search

@@ -1,11 +1,12 @@
 //! Of which branches the children of changesets say which are heads, and of which they do not: these are in doubt.
 
-ghost use Rattle.std.specs.Prelude.{◌≡◌, ◌↔◌, ◌⊎◌, ◌<◌, ◌≤◌, ◌++◌, ℕ, All, Contains, length, slice_index};
+ghost use Rattle.std.specs.Prelude.{◌≡◌, ◌↔◌, ◌⊎◌, ◌<◌, ◌≤◌, ◌++◌, ℕ, All, Contains, length, map, slice_index};
 ghost use Rattle.std.specs.Prelude.{IfOk, IsTrue};
 ghost use Rattle.std.specs.Int.{bit_at};
 ghost use Rattle.std.specs.List.{flat_map};
 ghost use Rattle.hg_wireproto.specs.code.Branches.{heads_in};
 ghost use Rattle.hg_wireproto.specs.code.Doubt.{AreAllTold, AreLeftOut, IsKin, IsTold};
+ghost use Rattle.hg_wireproto.specs.code.Search.{AreApart};
 
 use crate::branches::Branch;
 use crate::copied::Copied;
@@ -47,11 +48,13 @@ pub fn push_told<A: Allocator + Copy>(
 ) -> Result<Vec<Branch<A>, A>, NoMemory>
     requires behind { length behind.now ≡ length copied.now.rows }
     requires kin { All (λ b. IsKin copied.now.rows behind.now b.revs.items) branches.items }
+    requires apart { AreApart (map (λ b. b.revs.items) branches.items) }
     ensures heads { IfOk result (λ doubtful. (r : ℕ) →
         Contains (heads.new.items ++ flat_map (λ b. heads_in copied.now.rows b.revs.items) doubtful.items) r
         ↔ Contains (heads.old.items ++ flat_map (λ b. heads_in copied.now.rows b.revs.items) branches.items) r) }
     ensures within { IfOk result (λ doubtful.
         All (λ b. All (λ r. r < length copied.now.rows) b.revs.items) doubtful.items) }
+    ensures apart { IfOk result (λ doubtful. AreApart (map (λ b. b.revs.items) doubtful.items)) }
 {
     let mut doubtful = Vec::new(alloc);
     for branch in branches {

@@ -33,6 +33,8 @@ mod listkeys;
 mod lookup;
 mod once;
 mod plain;
+mod search;
+mod set;
 mod settled;
 mod since;
 mod standing;

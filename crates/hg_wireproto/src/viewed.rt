@@ -108,8 +108,8 @@ impl<A: Allocator> BranchView<A> {
     /// no head, and in all no more than twice as many as there are.
     ///
     /// Where a changeset that came is not plain, where a hidden one has a parent of another branch, and where more
-    /// might be looked at, the heads of all branches are found anew, once: it is five passes over the changesets, and
-    /// one for each 64 branches that are in doubt.
+    /// might be looked at, the heads of all branches are found anew, once: it is five passes over the changesets, and a
+    /// search of the branches that are in doubt, of up to 512 in a pass.
     pub fn with(self, came: Since<A>) -> Result<BranchView<A>, NoMemory>
     where
         A: Copy,

@@ -521,9 +521,8 @@ fn is_line_of(alloc: Global, log: &Changelog, told: &[u8]) -> Result<bool, Fail>
     Ok(told.starts_with(b"default ") && told.ends_with(id.as_str().as_bytes()) && told.len() == 48)
 }
 
-/// A chain of 260 in which 130 branches come in turn, twice: more than one pass tells.
-/// A chain in which 130 branches come twice (`more_branches_than_a_pass_tells`). Result: the later
-/// 130.
+/// Two lines in which 700 branches come in turn, more than one pass tells. At its middle the second has the end of the
+/// first as its other parent: the first changesets of the branches that come again before that are heads too.
 #[test]
 fn more_branches_than_a_pass_tells(rt: HostRuntime) -> Result<(), Fail> {
     let told = turns_are_told(rt.alloc(), RandomState::new(&rt)?)?;
@@ -531,42 +530,75 @@ fn more_branches_than_a_pass_tells(rt: HostRuntime) -> Result<(), Fail> {
     Ok(())
 }
 
-/// Puts the changeset of that number on its parent.
-fn put_turn(alloc: Global, log: &mut Changelog, parent: Node, number: u16) -> Result<Node, Fail> {
-    let branch = number % 130;
-    let text = format!(in alloc; "m\nu\n0 0 branch:b{branch:03}\n{number}\n")?;
-    let node = put_text(alloc, log, parent, Node::NULL, text.as_str().as_bytes());
-    Ok(node.ok_or("not added")?)
+const TURNS: u16 = 700;
+
+const MIDDLE: u16 = 350;
+
+/// The id of that number, or the null id.
+fn node_at(nodes: &[Node], number: u16) -> Node {
+    match nodes.get(number as usize) {
+        Some(node) => *node,
+        None => Node::NULL,
+    }
 }
 
-/// Adds the line of a head.
-fn push_turn(alloc: Global, wanted: &mut Vec<u8>, node: Node, number: u16) -> Result<(), Fail> {
-    let branch = number % 130;
-    let id = hex::encode(alloc, node.0.as_slice())?;
-    let line = format!(in alloc; "b{branch:03} {id}\n")?;
-    wanted.extend_from_slice(line.as_str().as_bytes())?;
+/// Puts the changeset of that number, after those before it.
+fn put_turn(
+    alloc: Global,
+    log: &mut Changelog,
+    nodes: &mut Vec<Node>,
+    number: u16,
+) -> Result<(), Fail> {
+    let branch = number % TURNS;
+    let text = format!(in alloc; "m\nu\n0 0 branch:b{branch:03}\n{number}\n")?;
+    let p1 = if branch == 0 {
+        Node::NULL
+    } else {
+        node_at(nodes.as_slice(), number.saturating_sub(1))
+    };
+    let p2 = if number == TURNS + MIDDLE {
+        node_at(nodes.as_slice(), TURNS - 1)
+    } else {
+        Node::NULL
+    };
+    let node = put_text(alloc, log, p1, p2, text.as_str().as_bytes());
+    nodes.push(node.ok_or("not added")?)?;
     Ok(())
 }
 
-/// Puts the chain, and gives the lines of the later 130.
-fn put_turns(alloc: Global, log: &mut Changelog) -> Result<Vec<u8>, Fail> {
-    let mut parent = Node::NULL;
+/// Adds a space and the digits of an id.
+fn push_id(alloc: Global, wanted: &mut Vec<u8>, node: Node) -> Result<(), Fail> {
+    wanted.push(b' ')?;
+    let id = hex::encode(alloc, node.0.as_slice())?;
+    wanted.extend_from_slice(id.as_str().as_bytes())?;
+    Ok(())
+}
+
+/// The lines of the heads.
+fn lines_of_turns(alloc: Global, nodes: &[Node]) -> Result<Vec<u8>, Fail> {
     let mut wanted = Vec::new(alloc);
-    for number in 0..260u16 {
-        parent = put_turn(alloc, log, parent, number)?;
-        if number >= 130 {
-            push_turn(alloc, &mut wanted, parent, number)?;
+    for branch in 0..TURNS {
+        let name = format!(in alloc; "b{branch:03}")?;
+        wanted.extend_from_slice(name.as_str().as_bytes())?;
+        if branch < MIDDLE {
+            push_id(alloc, &mut wanted, node_at(nodes, branch))?;
         }
+        push_id(alloc, &mut wanted, node_at(nodes, branch + TURNS))?;
+        wanted.push(b'\n')?;
     }
     let _ = wanted.pop();
     Ok(wanted)
 }
 
-/// Whether the lines of the chain are told.
+/// Whether the lines of the heads are told.
 fn turns_are_told(alloc: Global, state: RandomState) -> Result<bool, Fail> {
     let mut log = Changelog::new(alloc, state, Limits::standard());
     let markers = Markers::new(alloc, state);
-    let wanted = put_turns(alloc, &mut log)?;
+    let mut nodes = Vec::new(alloc);
+    for number in 0..2 * TURNS {
+        put_turn(alloc, &mut log, &mut nodes, number)?;
+    }
+    let wanted = lines_of_turns(alloc, nodes.as_slice())?;
     Ok(is_text(map_of(alloc, &log, &markers), wanted.as_slice()))
 }
 

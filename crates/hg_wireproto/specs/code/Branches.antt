@@ -1,6 +1,6 @@
 -- How the code keeps branches: names with the numbers of changesets. Some changesets are left out.
-use Rattle.std.specs.Prelude.{◌≡◌, ◌↔◌, ℕ, ◌<◌, ◌==◌, Bool, false, not, ◌&&◌, List, [], ◌∷◌, ◌++◌, length}
-use Rattle.std.specs.Prelude.{filter, Option, Some, None, Contains, slice_get, slice_index_or, unwrap_or}
+use Rattle.std.specs.Prelude.{◌≡◌, ℕ, ◌==◌, Bool, false, not, ◌&&◌, List, [], ◌∷◌, ◌++◌}
+use Rattle.std.specs.Prelude.{filter, Option, Some, None, slice_get, slice_index_or, unwrap_or}
 use Rattle.std.specs.Prelude.{if◌then◌else◌}
 use Rattle.std.specs.Cmp.Lexicographic.{slice_cmp}
 use Rattle.std.specs.List.{list_any, range_with_len}
@@ -10,7 +10,6 @@ use Rattle.std.specs.Ordering.{is_eq, nat_cmp}
 use Rattle.hg_log.specs.Changeset.{Changeset}
 use Rattle.hg_log.specs.Parents.{is_ancestor}
 use Rattle.hg_wireproto.specs.Branch.{branch_of}
-use Rattle.hg_wireproto.specs.code.Behind.{IsIn}
 
 abbrev pub text_of : Option Changeset → List ℕ
 text_of None = []
@@ -57,12 +56,3 @@ is_last_in rows revs r = not (list_any (λ d. is_ancestor rows r d && not (d == 
 
 abbrev pub heads_in : List Changeset → List ℕ → List ℕ
 heads_in rows revs = filter (is_last_in rows revs) revs
-
--- the row is in the list of that number
-pub record IsListed (lists : List (List ℕ)) (r k : ℕ) : Type 0 where
-  pub within : k < length lists
-  pub has : Contains (slice_index_or lists k []) r
-
--- each list is the set of its number
-abbrev pub AreSetsOf : List (List ℕ) → List ℕ → Type 0
-AreSetsOf lists sets = (r k : ℕ) → IsIn sets r k ↔ IsListed lists r k

@@ -3,7 +3,9 @@ use Rattle.std.specs.Prelude.{All}
 use Rattle.hg_wireproto.specs.Hidden.{AreHidden}
 use Rattle.hg_wireproto.specs.code.Behind.{AreBehind}
 use Rattle.hg_wireproto.specs.code.Doubt.{AreLeftOut}
+use Rattle.hg_wireproto.specs.code.Search.{AreApart}
 use Rattle.hg_wireproto.specs.declared.branches.Branch.{Branch}
+use Rattle.hg_wireproto.proofs.Apart.{apart_branches}
 use Rattle.hg_wireproto.proofs.Doubts.{all_heads, all_kin, candidates}
 use Rattle.hg_wireproto.proofs.Mapping.{covered_by, listed_within}
 use Rattle.hg_wireproto.proofs.covered.covered_changesets.Goals as goal
@@ -28,8 +30,19 @@ push_told-requires-clause-kin g c =
     c.in_ok-behind.ensures)
     seen c.in_ok-branches.branches.items c.in_ok-branches.ensures.branches
 
-pub push_heads-requires : goal.push_heads-requires
-push_heads-requires g c =
+pub push_told-requires-clause-apart : goal.push_told-requires-clause-apart
+push_told-requires-clause-apart g c =
+    apart_branches c.args.copied.now.rows c.as_slice-3.result.now (length c.args.copied.now.rows)
+    (λ (b : Branch g.row.A.Denot). let pair : List ℕ × List ℕ = (b.name.items, b.revs.items) in pair)
+    c.in_ok-branches.branches.items c.in_ok-branches.ensures.branches
+
+pub push_heads-requires-clause-apart : goal.push_heads-requires-clause-apart
+push_heads-requires-clause-apart g c =
+    subst (λ bs. AreApart (map (λ (b : Branch g.row.A.Denot). b.revs.items) bs)) (sym c.as_slice-5.ensures.value)
+    c.in_ok-doubtful.ensures.apart
+
+pub push_heads-requires-clause-within : goal.push_heads-requires-clause-within
+push_heads-requires-clause-within g c =
     let rows = c.args.copied.now.rows in
     subst (λ bs. All (λ (b : Branch g.row.A.Denot). All (λ r. r < length rows) b.revs.items) bs)
     (sym c.as_slice-5.ensures.value) c.in_ok-doubtful.ensures.within

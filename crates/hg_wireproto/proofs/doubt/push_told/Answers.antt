@@ -1,10 +1,12 @@
-use Rattle.std.proofs.Common.{◌≡◌, ◌∙◌, ◌++◌, ◌<◌, ap, arith, length, List, subst, sym, ℕ}
+use Rattle.std.proofs.Common.{◌≡◌, ◌∙◌, ◌++◌, ◌<◌, ap, arith, length, map, List, subst, sym, ℕ}
 use Rattle.std.specs.Prelude.{All}
 use Rattle.std.specs.List.{flat_map}
 use Rattle.std.proofs.lemmas.List.Elements.{All-push}
 use Rattle.hg_wireproto.specs.code.Branches.{heads_in}
 use Rattle.hg_wireproto.specs.code.Doubt.{IsKin}
+use Rattle.hg_wireproto.specs.code.Search.{AreApart}
 use Rattle.hg_wireproto.specs.declared.branches.Branch.{Branch}
+use Rattle.hg_wireproto.proofs.Apart.{apart_end, apart_put, apart_told}
 use Rattle.hg_wireproto.proofs.Doubts.{all_first, all_put, all_rest, branch_put, heads_put, none_put, told_heads, HaveSame}
 use Rattle.hg_wireproto.proofs.doubt.push_told.Goals as goal
 
@@ -13,6 +15,7 @@ loop-branch-init g c =
     let rows = c.args.copied.now.rows in
     let line = λ (b : Branch g.row.A.Denot). heads_in rows b.revs.items in
     let whole = c.args.heads.now.items ++ flat_map line c.args.branches.items in
+    let revs_of = λ (b : Branch g.row.A.Denot). b.revs.items in
     let left = c.into_iter-branch-iterator.ensures.into_iter_gives.0 in (
       subst (λ (bs : List (Branch g.row.A.Denot)). HaveSame ((c.args.heads.now.items
           ++ flat_map line c.new-doubtful.result.items) ++ flat_map line bs) whole) (sym left)
@@ -23,6 +26,9 @@ loop-branch-init g c =
           (sym c.new-doubtful.ensures.items) (λ k d low. absurd (omega (arith, low))),
       subst (λ (bs : List (Branch g.row.A.Denot)). All (λ (b : Branch g.row.A.Denot). IsKin rows c.args.behind.now b.revs.items) bs)
           (sym left) c.requires.kin,
+      subst (λ (bs : List (Branch g.row.A.Denot)). AreApart (map revs_of bs
+          ++ map revs_of c.into_iter-branch-iterator.result.rest.items)) (sym c.new-doubtful.ensures.items)
+          (subst (λ (bs : List (Branch g.row.A.Denot)). AreApart (map revs_of bs)) (sym left) c.requires.apart),
     )
 
 pub are_told-requires : goal.are_told-requires
@@ -59,6 +65,7 @@ loop-branch-preserved-then-are_told g c =
       heads_put line c.loop-branch.heads.items _ c.loop-branch.doubtful.items left rest branch is held.0 _ put,
       held.1,
       all_rest kin left rest branch is held.2,
+      apart_told (λ (b : Branch g.row.A.Denot). b.revs.items) c.loop-branch.doubtful.items left rest branch is held.3,
     )
 
 pub loop-branch-preserved : goal.loop-branch-preserved
@@ -79,6 +86,8 @@ loop-branch-preserved g c =
       subst (λ (bs : List (Branch g.row.A.Denot)). All within bs) (sym put)
           (All-push within c.loop-branch.doubtful.items branch held.1 one.within),
       all_rest kin left rest branch is held.2,
+      apart_put (λ (b : Branch g.row.A.Denot). b.revs.items) c.loop-branch.doubtful.items left rest branch is held.3
+          _ put,
     )
 
 pub returns-clause-heads : goal.returns-clause-heads
@@ -89,3 +98,10 @@ returns-clause-heads g c =
     all_put (λ (b : Branch g.row.A.Denot). heads_in rows b.revs.items) c.loop-branch.heads.items _
     c.loop-branch.doubtful.items c.loop-branch.branch-iterator.rest.items none
     c.loop-branch.invariant.0
+
+pub returns-clause-apart : goal.returns-clause-apart
+returns-clause-apart g c =
+    let none : length c.loop-branch.branch-iterator.rest.items ≡ 0 =
+    omega (arith, c.in-None.ensures.steps.0, c.loop-branch.branch-iterator.rest.ok.0) in
+    apart_end (λ (b : Branch g.row.A.Denot). b.revs.items) c.loop-branch.doubtful.items
+    c.loop-branch.branch-iterator.rest.items none c.loop-branch.invariant.3
