@@ -4,7 +4,7 @@
 set -eu
 . "$(dirname "$0")/../scratch.sh"
 rustc --edition 2024 -O -o "$scratch/plain" "$top/bench/book/plain.rs"
-scratch_program book book_speed 'anyhow hg_types hg_repo hg_push'
+scratch_program book book_speed 'anyhow hg_types hg_parts hg_repo hg_push'
 if ! "$rt" run > "$scratch/told" 2>&1; then
     grep -v -e ': proved' -e 'modules loaded' "$scratch/told" | tail -40
     exit 1

@@ -3,7 +3,7 @@
 # alone, how long the lock is held for an answer, and how many futex calls a push makes at 8 threads.
 set -eu
 . "$(dirname "$0")/../scratch.sh"
-scratch_program serve serve_speed 'anyhow hg_types hg_push hg_queue hg_repo hg_serve crossbeam_queue atomic_table'
+scratch_program serve serve_speed 'anyhow hg_types hg_parts hg_push hg_queue hg_repo hg_serve crossbeam_queue atomic_table'
 if ! "$rt" run > "$scratch/told" 2>&1; then
     grep -v -e ': proved' -e 'modules loaded' "$scratch/told" | tail -40
     exit 1

@@ -50,7 +50,7 @@ fn read_entry<A: Allocator + Copy>(
         Version::V02 => split_id(rest),
     };
     let (_link, delta) = split_id(rest);
-    let delta = delta_of(alloc, Seq::copy_of(alloc, delta)?, hashed);
+    let delta = delta_of(Seq::copy_of(alloc, delta)?, hashed);
     Ok(Entry {
         node,
         p1,
@@ -60,19 +60,16 @@ fn read_entry<A: Allocator + Copy>(
     })
 }
 
-/// The delta of these bytes, with the hash of a text where that is what one hunk puts in the place of nothing.
-fn delta_of<A: Allocator>(
-    alloc: A,
-    bytes: Seq<u8, A>,
-    hashed: Option<(TextHash, &[u8])>,
-) -> Delta<A>
+/// The delta of these bytes, with the hash of a text where that is what its one hunk has, or where it has no hunk and the
+/// text is empty.
+fn delta_of<A: Allocator>(bytes: Seq<u8, A>, hashed: Option<(TextHash, &[u8])>) -> Delta<A>
     requires { IfSome hashed (λ found. IsHashOf found.1.now found.0) }
     ensures { result ≡ bytes }
 {
     match hashed {
         Some((hash, text)) => {
-            let head = HUNK.min(bytes.len());
-            Delta::with_hash(alloc, bytes, head, hash, text)
+            let head = HUNK.min(bytes.len()) as u32;
+            Delta::with_hash(bytes, head, hash, text)
         }
         None => Delta::of(bytes),
     }
@@ -91,9 +88,9 @@ pub fn read_changesets<A: Allocator + Copy, B: Allocator>(
         × (rest : List ℕ) × AreChangesets version payload.now changesets rest
         × IsChunkFault fault (header_size version) rest) }
 {
-    let mut entries = Vec::new(alloc);
     let mut before = None;
     let mut rest = payload.as_slice();
+    let mut entries = Vec::with_capacity(alloc, count_chunks(version.header_size(), rest))?;
     // how many of the texts that were hashed ahead were met
     let mut met: usize = 0;
     loop {
@@ -110,4 +107,16 @@ pub fn read_changesets<A: Allocator + Copy, B: Allocator>(
             }
         }
     }
+}
+
+/// How many chunks stand before the one that closes their group, or before the first fault.
+fn count_chunks(least: usize, bytes: &[u8]) -> usize {
+    let mut rest = bytes;
+    'chunks: for count in 0..bytes.len() {
+        match read_chunk(least, rest) {
+            Ok((Chunk::Content(_), after)) => rest = after,
+            _ => return count,
+        }
+    }
+    0
 }

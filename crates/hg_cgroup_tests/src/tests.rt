@@ -354,6 +354,26 @@ fn manifests_and_files_take_no_memory(rt: HostRuntime) -> Result<(), Fail> {
     Ok(())
 }
 
+// The root changeset 0 to 40 times, without a delta. Result: of each number the entries take more than those of one
+// less, so that there are no places for more than come.
+#[test]
+fn the_list_has_a_place_for_each_changeset(rt: HostRuntime) -> Result<(), Fail> {
+    let heap = LocalHeap::new(rt.alloc(), 1 << 16)?;
+    let root = root(rt.alloc())?;
+    let mut payload = Vec::new(rt.alloc());
+    let mut least = 0usize;
+    for count in 0..=40usize {
+        let bytes = joined(rt.alloc(), &[payload.as_slice(), EMPTY, EMPTY, EMPTY])?;
+        let entries = decode(&heap, b"02", &payload_of(rt, &bytes)?)
+            .ok()
+            .ok_or("entries")?;
+        assert!(rt; entries.len() == count && heap.used() >= least);
+        least = heap.used().saturating_add(1);
+        payload.extend_from_slice(&root)?;
+    }
+    Ok(())
+}
+
 // Over an ample heap memory is not refused, however many changesets come, and it keeps at most four times
 // what came.
 // 02: the root changeset once, and 1,001 times, over a heap of 1 MiB. Result: 1 entry, 1,001
@@ -466,8 +486,9 @@ fn some_carried_whole(alloc: Global) -> Result<Vec<u8>, AllocError> {
     )
 }
 
-// In version 02 A, R, S, B as a delta on A, and M. Result: the hashes of A, R, S and M are found by their parents, the
-// lesser first, and their texts, and are their ids; B has none. The entries are those without hashes.
+// In version 02 A, R, S, B as a delta on A, and M. Result: the hashes of R, S and M are found behind the twelve bytes
+// of their hunk, and that of A, which has none, at the front, by their parents, the lesser first, and are their ids;
+// B has no hash. The entries are those without hashes.
 #[test]
 fn texts_that_are_carried_whole_are_hashed(rt: HostRuntime) -> Result<(), Fail> {
     let bytes = some_carried_whole(rt.alloc())?;
@@ -475,22 +496,22 @@ fn texts_that_are_carried_whole_are_hashed(rt: HostRuntime) -> Result<(), Fail> 
     hash_texts(&mut payload);
     let entries = decode(rt.alloc(), b"02", &payload).ok().ok_or("entries")?;
     let wanted = [
-        (A, Z, Z, b"".as_slice(), true),
-        (R, Z, Z, b"r".as_slice(), true),
-        (S, Z, R, b"whole".as_slice(), true),
-        (B, Z, A, b"b".as_slice(), false),
-        (M, S, R, b"both".as_slice(), true),
+        (A, Z, Z, b"".as_slice(), 0, true),
+        (R, Z, Z, ADD_R, 12, true),
+        (S, Z, R, ADD_WHOLE, 12, true),
+        (B, Z, A, SET_B, 12, false),
+        (M, S, R, ADD_BOTH, 12, true),
     ];
     assert_eq!(rt; entries.len(), wanted.len());
-    for (entry, (node, lesser, greater, text, is_hashed)) in entries
+    for (entry, (node, lesser, greater, delta, head, is_hashed)) in entries
         .as_slice()
         .iter()
         .zip(wanted.iter())
     {
-        assert!(rt; entry.node == Node(**node));
+        assert!(rt; entry.node == Node(**node) && entry.delta.as_slice() == *delta);
         let found = entry
             .delta
-            .digest_of(&Node(**lesser), &Node(**greater), text);
+            .digest_behind(*head, &Node(**lesser), &Node(**greater));
         assert_eq!(rt; found, is_hashed.then_some(Node(**node)));
     }
     Ok(())
@@ -511,8 +532,164 @@ fn bytes_that_are_cut_are_hashed_as_far_as_they_go(rt: HostRuntime) -> Result<()
     Ok(())
 }
 
-// One changeset with the hunk (0, 0, 2) and one byte, (0, 1, 1) and (1, 1, 1), and one on another base. Result: none has a
-// hash.
+// In version 02 R, carried whole, S as a delta that puts its text in the place of all of R's, and M as one on S. Result:
+// each has the hash of its text, which is its id.
+#[test]
+fn texts_in_the_place_of_those_before_are_hashed(rt: HostRuntime) -> Result<(), Fail> {
+    let bytes = joined(
+        rt.alloc(),
+        &[
+            b"\0\0\0\x75".as_slice(),
+            R,
+            Z,
+            Z,
+            Z,
+            R,
+            ADD_R,
+            b"\0\0\0\x79",
+            S,
+            R,
+            Z,
+            R,
+            S,
+            b"\0\0\0\0\0\0\0\x01\0\0\0\x05whole",
+            b"\0\0\0\x78",
+            M,
+            R,
+            S,
+            S,
+            M,
+            b"\0\0\0\0\0\0\0\x05\0\0\0\x04both",
+            EMPTY,
+            EMPTY,
+            EMPTY,
+        ],
+    )?;
+    let mut payload = payload_of(rt, &bytes)?;
+    hash_texts(&mut payload);
+    for (number, id) in [R, S, M].iter().enumerate() {
+        let (hash, _) = payload.hashed(number).ok_or("a hash")?;
+        assert_eq!(rt; hash.digest, Node(**id));
+    }
+    let entries = decode(rt.alloc(), b"02", &payload).ok().ok_or("entries")?;
+    for entry in entries.as_slice() {
+        assert!(rt; entry.delta.is_hashed());
+    }
+    Ok(())
+}
+
+/// Whether R alone has a hash, carried whole, where S comes behind those bytes as that delta on R.
+fn has_one_hash<'p>(
+    rt: HostRuntime,
+    between: &'p [u8],
+    size: &'p [u8],
+    hunk: &'p [u8],
+) -> Result<bool, NoMemory> {
+    let bytes = joined(
+        rt.alloc(),
+        &[
+            b"\0\0\0\x75".as_slice(),
+            R,
+            Z,
+            Z,
+            Z,
+            R,
+            ADD_R,
+            between,
+            size,
+            S,
+            R,
+            Z,
+            R,
+            S,
+            hunk,
+            EMPTY,
+            EMPTY,
+            EMPTY,
+        ],
+    )?;
+    let mut payload = payload_of(rt, &bytes)?;
+    hash_texts(&mut payload);
+    Ok(payload.hashed(0).is_some() && payload.hashed(1).is_none())
+}
+
+// R, carried whole, and S as a delta on R: its text before all of R's, in the place of two bytes, in the place of R's with
+// a byte too many, no hunk; and in the place of R's, with B between. Result: R alone has a hash.
+#[test]
+fn other_deltas_on_the_text_before_are_not_hashed(rt: HostRuntime) -> Result<(), Fail> {
+    let size = b"\0\0\0\x79".as_slice();
+    for (size, hunk) in [
+        (size, ADD_WHOLE),
+        (size, b"\0\0\0\0\0\0\0\x02\0\0\0\x05whole"),
+        (size, b"\0\0\0\0\0\0\0\x01\0\0\0\x04whole"),
+        (b"\0\0\0\x68", b""),
+    ] {
+        assert!(rt; has_one_hash(rt, b"", size, hunk)?);
+    }
+    let other = joined(rt.alloc(), &[b"\0\0\0\x75", B, A, Z, A, B, SET_B])?;
+    let set = b"\0\0\0\0\0\0\0\x01\0\0\0\x05whole";
+    assert!(rt; has_one_hash(rt, &other, size, set)?);
+    Ok(())
+}
+
+// S as a delta on R, which is not in the group, in the place of one byte, and M as one on S. Result: both have the hash of
+// their text: what is replaced at a group's front is taken for all of the text.
+#[test]
+fn a_text_on_one_before_the_group_is_hashed(rt: HostRuntime) -> Result<(), Fail> {
+    let bytes = joined(
+        rt.alloc(),
+        &[
+            b"\0\0\0\x79".as_slice(),
+            S,
+            R,
+            Z,
+            R,
+            S,
+            b"\0\0\0\0\0\0\0\x01\0\0\0\x05whole",
+            b"\0\0\0\x78",
+            M,
+            R,
+            S,
+            S,
+            M,
+            b"\0\0\0\0\0\0\0\x05\0\0\0\x04both",
+            EMPTY,
+            EMPTY,
+            EMPTY,
+        ],
+    )?;
+    let mut payload = payload_of(rt, &bytes)?;
+    hash_texts(&mut payload);
+    for (number, id) in [S, M].iter().enumerate() {
+        let (hash, _) = payload.hashed(number).ok_or("a hash")?;
+        assert_eq!(rt; hash.digest, Node(**id));
+    }
+    Ok(())
+}
+
+// A group of R, carried whole, 63, 64, 65 and 130 times. Result: so many hashes.
+#[test]
+fn many_texts_are_hashed(rt: HostRuntime) -> Result<(), Fail> {
+    let whole = joined(rt.alloc(), &[b"\0\0\0\x75", R, Z, Z, Z, R, ADD_R])?;
+    for count in [63, 64, 65, 130] {
+        let mut bytes = Vec::new(rt.alloc());
+        for _ in 0..count {
+            bytes.extend_from_slice(&whole)?;
+        }
+        bytes.extend_from_slice(EMPTY)?;
+        let mut payload = payload_of(rt, &bytes)?;
+        hash_texts(&mut payload);
+        for number in 0..count {
+            let (hash, _) = payload.hashed(number).ok_or("a hash")?;
+            assert_eq!(rt; hash.digest, Node(*R));
+        }
+        assert!(rt; payload.hashed(count).is_none());
+    }
+    Ok(())
+}
+
+// One changeset with the hunk (0, 0, 2) and one byte, (0, 1, 1) and (1, 1, 1), and one before all of another base. Result:
+// none has a hash.
 #[test]
 fn other_deltas_are_not_hashed(rt: HostRuntime) -> Result<(), Fail> {
     for (base, hunk) in [

@@ -1,6 +1,6 @@
 -- A repository that is served, from its seed to its report.
 use Rattle.std.specs.Prelude.{ℕ, ◌≡◌, List, Bool, Option, Some, None, Result, Ok, Err}
-use Rattle.hg_types.specs.declared.item.Taken.{Taken}
+use Rattle.hg_parts.specs.declared.item.Taken.{Taken}
 use Rattle.hg_parts.specs.Repository.{Repository}
 use Rattle.hg_connection.specs.Devices.{Input, Output}
 use Rattle.hg_tcp.specs.declared.terms.ServeTerms.{ServeTerms}

@@ -2,7 +2,7 @@
 use Rattle.std.proofs.Common.{ℕ, ◌≡◌, ◌≤◌, ◌<◌, List, ◌++◌, refl, sym, subst, arith}
 use Rattle.std.specs.Prelude.{Contains}
 use Rattle.std.proofs.lemmas.List.Elements.{Contains-append_right}
-use Rattle.hg_types.specs.declared.item.Taken.{Taken}
+use Rattle.hg_parts.specs.declared.item.Taken.{Taken}
 use Rattle.hg_store.specs.Entries.{Entry}
 use Rattle.hg_store.specs.declared.head.Head.{Head}
 use Rattle.hg_store.specs.declared.log.Log.{Log}

@@ -5,7 +5,7 @@ use Rattle.std.proofs.Common.{Bool, true, false, drop, Result, Ok, Err, if◌the
 use Rattle.std.specs.Prelude.{All, OnOk, insert, is_err}
 use Rattle.std.specs.List.{AllByRecursion}
 use Rattle.std.proofs.lemmas.List.Elements.{All-append, All-cons, All-drop, All-take}
-use Rattle.hg_types.specs.declared.item.Taken.{Taken}
+use Rattle.hg_parts.specs.declared.item.Taken.{Taken}
 use Rattle.hg_types.specs.Limits.{IsAllowed}
 use Rattle.hg_store.specs.Entries.{Entry}
 use Rattle.hg_store.specs.Records.{IsSized}

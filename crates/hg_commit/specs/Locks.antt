@@ -1,6 +1,6 @@
 -- What contracts see of the two values under the locks of a ledger.
 use Rattle.std.specs.Prelude.{ℕ, ◌≡◌, Bool, List, ◌∷◌, ◌++◌, All}
-use Rattle.hg_types.specs.declared.item.Taken.{Taken}
+use Rattle.hg_parts.specs.declared.item.Taken.{Taken}
 use Rattle.hg_store.specs.Entries.{Entry}
 use Rattle.hg_store.specs.declared.log.Log.{Log}
 use Rattle.hg_push.specs.Run.{RepositoryOf}

@@ -3,7 +3,7 @@
 ghost use Rattle.std.specs.Prelude.{ℕ, List, ◌<◌, ◌≤◌};
 ghost use Rattle.std.specs.List.{AllByRecursion};
 ghost use mathlib.Core.List.{IsPrefix};
-ghost use Rattle.hg_types.specs.declared.item.Taken.{Taken as TakenItem};
+ghost use Rattle.hg_parts.specs.declared.item.Taken.{Taken as TakenItem};
 ghost use Rattle.hg_store.specs.Entries.{Entry};
 ghost use Rattle.hg_store.specs.declared.head.Head.{Head};
 ghost use Rattle.hg_push.specs.Run.{RepositoryOf};

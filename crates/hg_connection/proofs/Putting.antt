@@ -3,8 +3,8 @@ use Rattle.std.proofs.Common.{ℕ, ◌≡◌, ◌≤◌, ◌<◌, ◌+◌, List,
 use Rattle.std.proofs.Common.{append_assoc, length}
 use Rattle.std.proofs.lemmas.List.{append-nil, length-append}
 use Rattle.hg_types.specs.declared.part.Part.{Part}
-use Rattle.hg_types.specs.declared.item.Item.{Item}
-use Rattle.hg_types.specs.declared.item.What.TheVariants.{Part as a_part}
+use Rattle.hg_parts.specs.declared.item.Item.{Item}
+use Rattle.hg_parts.specs.declared.item.What.TheVariants.{Part as a_part}
 use Rattle.hg_queue.specs.Words.{next_item}
 use Rattle.hg_stream.specs.declared.unbundler.Unbundler.{Unbundler}
 use Rattle.hg_stream.specs.Unbundler.{HoldsBundle}

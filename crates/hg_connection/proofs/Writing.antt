@@ -9,10 +9,10 @@ use Rattle.std.proofs.lemmas.List.Folds.{concat-append}
 use Rattle.std.proofs.Math.Seq.{take-add, take-length}
 use Rattle.std.proofs.KnownBytes.{Appends-nil, Appends-trans}
 use Rattle.std.specs.Io.KnownBytes.{Appends}
-use Rattle.hg_connection.specs.Devices.{Output, WriteAnswer, Took, Refused, Flushed, NotFlushed, TellsMore, Uses}
+use Rattle.hg_connection.specs.Devices.{Output, WriteAnswer, Took, Refused, TellsMore, Uses}
 use Rattle.hg_connection.specs.Devices.{taken_by}
 use Rattle.hg_connection.specs.declared.sending.Sending.{Sending}
-use Rattle.hg_connection.specs.declared.sending.Sending.TheVariants.{Whole, Broken}
+use Rattle.hg_connection.specs.declared.sending.Sending.TheVariants.{Broken}
 use Rattle.hg_connection.specs.Sent.{LastUse, Sends, Writes}
 use Rattle.hg_connection.proofs.DeviceLemmas.{Adds-nil, Adds-trans}
 

@@ -3,8 +3,8 @@
 ghost use Rattle.std.specs.Prelude.{◌≡◌};
 ghost use Rattle.hg_connection.specs.Receiving.{cut_of};
 
+use hg_parts::CutReason;
 use hg_stream::StreamFault;
-use hg_types::CutReason;
 
 /// Why no more is read of a bundle.
 #[derive(Clone, Copy, Debug, PartialEq, Eq)]

@@ -17,7 +17,7 @@ use crate::marking::mark;
 use crate::receiving::read_on;
 use crate::reply::send_reply;
 use crate::served::{ConnFault, Round, Served};
-use hg_parts::hash_ahead;
+use hg_parts::SentPart;
 use hg_push::laws::replies_are_short;
 use hg_serve::{Client, Naming, Point, Probe, Sender, Server};
 use hg_stream::Unbundler;
@@ -25,7 +25,7 @@ use hg_stream::laws::{parts_are_few, streams_are_settled_once};
 use std::alloc::Allocator;
 use std::sync::Wait;
 
-/// Puts the parts that the bundle has finished. What can be hashed of them is hashed here, where no other waits.
+/// Puts the parts that the bundle has finished. They are read and hashed here, where no other waits.
 pub(crate) fn put_ready<J: Naming<A>, A: Allocator + Copy, R: Wait, G: Probe>(
     server: &Server<J, A>,
     rt: &R,
@@ -41,7 +41,7 @@ pub(crate) fn put_ready<J: Naming<A>, A: Allocator + Copy, R: Wait, G: Probe>(
     ensures limits { limits_of bundle.new ≡ limits_of bundle.old }
 {
     'parts: while let Some(part) = bundle.next_part() {
-        match server.put(rt, sender, hash_ahead(part), probe) {
+        match server.put(rt, sender, SentPart::read_ahead(part), probe) {
             Ok(()) => {}
             // the reader of bundles refuses more parts than a push may have
             Err(_) => unreachable!(),

@@ -4,10 +4,11 @@
 use hg_connection::{BundleEnd, Inbox, Sending, cut_of, read_on, send_reply};
 use hg_help_tests::bundles::{EMPTY, RACE};
 use hg_help_tests::devices::{Sink, Source};
+use hg_parts::CutReason;
 use hg_push::{Outcome, Reason};
 use hg_repo::{Done, Refusal};
 use hg_stream::{StreamFault, Unbundler};
-use hg_types::{CutReason, Limits, Seq};
+use hg_types::{Limits, Seq};
 use linked_list_allocator::LocalHeap;
 use std::test::*;
 

@@ -2,3 +2,4 @@ mod Numbers
 mod Hunks
 mod Readings
 mod Outcomes
+mod Wholes

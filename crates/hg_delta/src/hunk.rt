@@ -7,6 +7,9 @@ ghost use Rattle.hg_delta.specs.code.View.{view};
 
 use crate::fault::DeltaFault;
 
+/// The bytes of a hunk before its content.
+pub const HEADER: u32 = 12;
+
 /// A hunk: the bytes `start` to `end` of the base, `end` excluded, are replaced by the content.
 #[derive(Clone, Copy)]
 pub struct Hunk<'a> {

@@ -5,7 +5,8 @@
 //! base, `end` excluded, are replaced by the content. Hunks ascend and do not overlap. This is the delta data
 //! of Mercurial's `internals.changegroups`, "Delta Groups".
 //!
-//! [`apply`] makes the text of a base and a delta, or reports the first fault.
+//! [`apply`] makes the text of a base and a delta, or reports the first fault. [`whole_text`] finds the text in a delta
+//! that carries it whole, so that it need not be made.
 #![tactic(auto)]
 
 mod fault;
@@ -13,4 +14,4 @@ mod hunk;
 mod text;
 
 pub use fault::DeltaFault;
-pub use text::{apply, every_delta_has_an_outcome, one_outcome};
+pub use text::{apply, every_delta_has_an_outcome, one_outcome, whole_text};

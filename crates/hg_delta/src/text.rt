@@ -1,7 +1,7 @@
 //! The text that a delta makes of a base.
 
-ghost use Rattle.std.specs.Prelude.{ℕ, ◌≡◌, ◌≢◌, ◌≤◌, List, [], ◌++◌, length, IfOk, IfErr, IsErrOf, OnOk};
-ghost use Rattle.std.specs.Prelude.{Result};
+ghost use Rattle.std.specs.Prelude.{ℕ, ◌≡◌, ◌≢◌, ◌≤◌, List, [], ◌++◌, length, drop, IfOk, IfErr, IfSome, IsErrOf};
+ghost use Rattle.std.specs.Prelude.{OnOk, IsTrue, Result, Ok};
 ghost use Rattle.std.specs.Result.{result_map_both};
 ghost use Rattle.hg_types.specs.Bytes.{IsBytes};
 ghost use Rattle.hg_delta.specs.declared.fault.DeltaFault.{DeltaFault};
@@ -10,7 +10,7 @@ ghost use Rattle.hg_delta.specs.Faults.{BreaksAt, GivesTooMuch, IsOutcome};
 ghost use Rattle.hg_delta.specs.Outcome.{outcome_of};
 
 use crate::fault::DeltaFault;
-use crate::hunk::read_hunk;
+use crate::hunk::{HEADER, Hunk, read_hunk};
 use std::alloc::Allocator;
 
 /// How long the text is.
@@ -84,6 +84,36 @@ pub fn apply<A: Allocator + Copy>(
     let mut text = Vec::with_capacity(alloc, length)?;
     write_text(&mut text, base, delta)?;
     Ok(text)
+}
+
+/// Where the text begins in a delta that carries it whole: its one hunk puts it in the place of all of the base, or it
+/// has no hunk and the base is empty. None for any other delta, and where the text has more than `max` bytes.
+pub fn whole_text(base: &[u8], delta: &[u8], max: u32) -> Option<u32>
+    ensures text { IfSome result (λ head. Applies base.now delta.now (drop head delta.now)) }
+    ensures fits { IfSome result (λ head. length (drop head delta.now) ≤ max) }
+    ensures outcome { IfSome result (λ head.
+        outcome_of base.now delta.now max ≡ Ok (drop head delta.now)) }
+{
+    if delta.is_empty() {
+        if !base.is_empty() {
+            return None;
+        }
+        return Some(0);
+    }
+    let Ok((hunk, rest)) = read_hunk(base.len(), 0, delta) else {
+        return None;
+    };
+    if !is_whole(&hunk, base.len(), rest) || hunk.content.len() > max as usize {
+        return None;
+    }
+    Some(HEADER)
+}
+
+/// Whether a hunk is in the place of all of a base of that size, and nothing is left behind it.
+fn is_whole(hunk: &Hunk<'_>, size: usize, rest: &[u8]) -> bool
+    ensures { IsTrue result → (hunk.now.start ≡ 0) × (hunk.now.end ≡ size) × (rest.now ≡ []) }
+{
+    hunk.start == 0 && hunk.end == size && rest.is_empty()
 }
 
 /// A delta gives one text of a base, or has one fault: whatever is an outcome of it by the definitions is the

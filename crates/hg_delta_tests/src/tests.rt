@@ -127,6 +127,66 @@ fn longest_text(rt: HostRuntime) -> Result<(), Fail> {
     Ok(())
 }
 
+// (0, 6, `XY`) and (0, 6, nothing) on `abcdef`; (0, 0, `XY`) and (0, 0, nothing) on nothing. Result: each carries its
+// text whole, behind the twelve bytes before it.
+#[test]
+fn texts_that_are_carried_whole(rt: HostRuntime) -> Result<(), Fail> {
+    for (base, delta, wanted) in [
+        (
+            BASE,
+            b"\0\0\0\0\0\0\0\x06\0\0\0\x02XY".as_slice(),
+            b"XY".as_slice(),
+        ),
+        (BASE, b"\0\0\0\0\0\0\0\x06\0\0\0\0", b""),
+        (b"", b"\0\0\0\0\0\0\0\0\0\0\0\x02XY", b"XY"),
+        (b"", b"\0\0\0\0\0\0\0\0\0\0\0\0", b""),
+    ] {
+        assert_eq!(rt; whole_text(base, delta, AMPLE), Some(12));
+        assert_eq!(rt; delta.get(12..), Some(wanted));
+        let text = apply(rt.alloc(), base, delta, AMPLE).ok().ok_or("a text")?;
+        assert_eq!(rt; text.as_slice(), wanted);
+    }
+    Ok(())
+}
+
+// (0, 5, `XY`); (1, 6, `XY`); (0, 0, `XY`); (0, 7, `XY`); (0, 6, `X`) (6, 6, `Y`); (0, 6, `XY`) and a byte behind it;
+// no hunk; eleven bytes of a header; (0, 6, three bytes) with two. On nothing: (0, 1, `XY`). Result: none carries its
+// text whole.
+#[test]
+fn deltas_that_do_not_carry_their_text_whole(rt: HostRuntime) {
+    for delta in [
+        b"\0\0\0\0\0\0\0\x05\0\0\0\x02XY".as_slice(),
+        b"\0\0\0\x01\0\0\0\x06\0\0\0\x02XY",
+        b"\0\0\0\0\0\0\0\0\0\0\0\x02XY",
+        b"\0\0\0\0\0\0\0\x07\0\0\0\x02XY",
+        b"\0\0\0\0\0\0\0\x06\0\0\0\x01X\0\0\0\x06\0\0\0\x06\0\0\0\x01Y",
+        b"\0\0\0\0\0\0\0\x06\0\0\0\x02XYZ",
+        b"",
+        b"\0\0\0\0\0\0\0\x06\0\0\0",
+        b"\0\0\0\0\0\0\0\x06\0\0\0\x03XY",
+    ] {
+        assert_eq!(rt; whole_text(BASE, delta, AMPLE), None);
+    }
+    let past = b"\0\0\0\0\0\0\0\x01\0\0\0\x02XY";
+    assert_eq!(rt; whole_text(b"", past, AMPLE), None);
+}
+
+// No hunk on nothing, with no byte allowed. Result: the empty text, which begins where the delta does.
+#[test]
+fn no_hunk_on_nothing(rt: HostRuntime) {
+    assert_eq!(rt; whole_text(b"", b"", 0), Some(0));
+}
+
+// (0, 6, `XY`) with at most 2 and at most 1 byte; (0, 6, nothing) with none. Result: whole; not; whole.
+#[test]
+fn longest_text_that_is_carried_whole(rt: HostRuntime) {
+    let delta = b"\0\0\0\0\0\0\0\x06\0\0\0\x02XY";
+    assert_eq!(rt; whole_text(BASE, delta, 2), Some(12));
+    assert_eq!(rt; whole_text(BASE, delta, 1), None);
+    let empty = b"\0\0\0\0\0\0\0\x06\0\0\0\0";
+    assert_eq!(rt; whole_text(BASE, empty, 0), Some(12));
+}
+
 // Heaps of every size: memory is refused where the text does not fit, and otherwise the text comes.
 // A text of 99 bytes over heaps of each size below 160. Result: NoMemory up to a size, from there
 // on the text; a short delta and a text that is too long are told over every heap.

@@ -1,7 +1,7 @@
 -- The end of a server whose pushes are kept. An end that leaves a file is that of the process or of the machine.
 use Rattle.std.specs.Prelude.{ℕ, List, All}
 use mathlib.Core.List.{IsPrefix}
-use Rattle.hg_types.specs.declared.item.Taken.{Taken}
+use Rattle.hg_parts.specs.declared.item.Taken.{Taken}
 use Rattle.hg_store.specs.Entries.{Entry}
 use Rattle.hg_store.specs.declared.head.Head.{Head}
 use Rattle.hg_push.specs.Run.{RepositoryOf}

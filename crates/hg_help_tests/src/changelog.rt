@@ -16,14 +16,14 @@ pub fn put_text<A: Allocator + Copy>(
     let Ok(delta) = whole(alloc, text) else {
         return None
     };
-    let entry = Entry {
+    let mut entry = Entry {
         node,
         p1,
         p2,
         base: Node::NULL,
         delta: Delta::of(Seq::from_vec(delta)),
     };
-    match log.add(&entry) {
+    match log.add(&mut entry) {
         Ok(Added::New(_)) => Some(node),
         _ => None,
     }

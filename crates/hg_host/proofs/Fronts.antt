@@ -3,7 +3,7 @@ use Rattle.std.proofs.Common.{ℕ, List, [], ◌∷◌, ◌++◌, sym, subst}
 use Rattle.std.specs.Prelude.{All}
 use Rattle.std.proofs.lemmas.List.Elements.{All-cons, All-head, All-nil, All-tail}
 use mathlib.Core.List.{IsPrefix}
-use Rattle.hg_types.specs.declared.item.Taken.{Taken}
+use Rattle.hg_parts.specs.declared.item.Taken.{Taken}
 use Rattle.hg_store.specs.Entries.{Entry}
 use Rattle.hg_store.specs.declared.head.Head.{Head}
 use Rattle.hg_push.specs.Run.{RepositoryOf}

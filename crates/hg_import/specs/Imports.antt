@@ -1,6 +1,6 @@
 -- Bundles of files that become the next records of a store, one after the other.
 use Rattle.std.specs.Prelude.{ℕ, ◌≡◌, ◌≢◌, ◌⊎◌, ◌+◌, ◌<◌, ◌≤◌, ◌^◌, ◌++◌, List, [], ◌∷◌, length, Option, None, Some, ⊤}
-use Rattle.hg_types.specs.declared.item.CutReason.TheVariants.{ReadFailed}
+use Rattle.hg_parts.specs.declared.item.CutReason.TheVariants.{ReadFailed}
 use Rattle.hg_types.specs.declared.limits.Limits.{Limits}
 use Rattle.hg_parts.specs.declared.refusal.Refusal.{Refusal}
 use Rattle.hg_push.specs.declared.outcome.Reason.{Reason}

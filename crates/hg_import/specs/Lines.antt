@@ -1,7 +1,7 @@
 -- The line of a file: the place of its push, or why it is not done, in the words of its reply.
 use Rattle.std.specs.Prelude.{ℕ, List, ◌++◌, codes, decimal}
-use Rattle.hg_types.specs.declared.item.CutReason.{CutReason}
-use Rattle.hg_types.specs.declared.item.CutReason.TheVariants.{GaveUp, ReadFailed, Stream}
+use Rattle.hg_parts.specs.declared.item.CutReason.{CutReason}
+use Rattle.hg_parts.specs.declared.item.CutReason.TheVariants.{GaveUp, ReadFailed, Stream}
 use Rattle.hg_parts.specs.declared.refusal.RaceText.{RaceText}
 use Rattle.hg_parts.specs.declared.refusal.RaceText.TheVariants.{HeadsChanged, PhasesChanged, BookmarksChanged}
 use Rattle.hg_parts.specs.declared.refusal.Refusal.{Refusal}

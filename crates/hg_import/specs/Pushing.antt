@@ -1,6 +1,6 @@
 -- A bundle at the front of some bytes that is run as a push.
 use Rattle.std.specs.Prelude.{ℕ, ◌≡◌, ◌++◌, List, [], Err, ⊤}
-use Rattle.hg_types.specs.declared.item.CutReason.TheVariants.{Stream}
+use Rattle.hg_parts.specs.declared.item.CutReason.TheVariants.{Stream}
 use Rattle.hg_types.specs.declared.limits.Limits.{Limits}
 use Rattle.hg_types.specs.declared.part.Part.{Part}
 use Rattle.hg_stream.specs.declared.fault.StreamFault.{StreamFault}

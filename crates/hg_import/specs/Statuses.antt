@@ -1,6 +1,6 @@
 -- Which status the program has where it ended before the last file.
 use Rattle.std.specs.Prelude.{ℕ, ◌==◌, if◌then◌else◌}
-use Rattle.hg_types.specs.declared.item.CutReason.TheVariants.{ReadFailed, Stream}
+use Rattle.hg_parts.specs.declared.item.CutReason.TheVariants.{ReadFailed, Stream}
 use Rattle.hg_parts.specs.declared.refusal.Refusal.{Refusal}
 use Rattle.hg_push.specs.declared.outcome.Reason.{Reason}
 use Rattle.hg_push.specs.declared.outcome.Reason.TheVariants.{Cut, NoMemory as without_memory}

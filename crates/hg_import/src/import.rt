@@ -15,10 +15,11 @@ use crate::line::{place_line, reason_line};
 use crate::pushing::run_bundle;
 use crate::reading::{InputFault, read_front};
 use hg_connection::{Reader, Sending, Writer, send};
+use hg_parts::CutReason;
 use hg_push::Reason;
 use hg_repo::{Refusal, Repo};
 use hg_store::{Device, DeviceError, Log, Sealed, Stamp};
-use hg_types::{CutReason, Limits, Seq};
+use hg_types::{Limits, Seq};
 use std::alloc::Allocator;
 
 /// What says which time it is.

@@ -3,10 +3,10 @@
 ghost use Rattle.std.specs.Prelude.{◌≡◌, ◌++◌, IfOk, OnOk, string_bytes};
 ghost use Rattle.hg_import.specs.Lines.{cut_text, place_line, race_text, reason_line, reason_text, refusal_text};
 
-use hg_parts::RaceText;
+use hg_parts::{CutReason, RaceText};
 use hg_push::Reason;
 use hg_repo::Refusal;
-use hg_types::{CutReason, NoMemory};
+use hg_types::NoMemory;
 use std::alloc::Allocator;
 
 /// The line of a push that is done: its place in the store.

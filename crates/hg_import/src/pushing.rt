@@ -10,12 +10,13 @@ ghost use Rattle.hg_recovery.specs.Replays.{ReplaysOne};
 ghost use Rattle.hg_push.specs.Run.{RepositoryOf};
 ghost use Rattle.hg_import.specs.Pushing.{BeginsWith, IsUndone, ShowsFault};
 
+use hg_parts::CutReason;
 use hg_push::Reason;
 use hg_push::laws::memory_refuses_no_part;
 use hg_repo::{Refusal, Repo, Source};
 use hg_stream::laws::parts_are_few;
 use hg_stream::{State, StreamFault, Unbundler, all_parts};
-use hg_types::{CutReason, Limits, Part};
+use hg_types::{Limits, Part};
 use std::alloc::Allocator;
 
 /// Runs the bundle at the front of these bytes as a push, and says how many bytes it has: what follows its end mark

@@ -65,14 +65,14 @@ struct Keys<A: Allocator> {
 
 /// Adds the changeset without a text.
 fn put_root<A: Allocator + Copy>(alloc: A, log: &mut Changelog<A>) -> bool {
-    let entry = Entry {
+    let mut entry = Entry {
         node: ROOT,
         p1: Node::NULL,
         p2: Node::NULL,
         base: Node::NULL,
         delta: Delta::of(Seq::new(alloc)),
     };
-    log.add(&entry) == Ok(Added::New(0))
+    log.add(&mut entry) == Ok(Added::New(0))
 }
 
 /// Phases of no rows.

@@ -4,3 +4,4 @@ pub mod Graph
 pub mod Marks
 pub mod Inside
 pub mod IdHash
+pub mod Texts

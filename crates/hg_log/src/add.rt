@@ -9,15 +9,17 @@ ghost use Rattle.hg_log.specs.declared.add.AddFault.{AddFault};
 ghost use Rattle.hg_log.specs.Changeset.{Log};
 ghost use Rattle.hg_log.specs.Rows.{IsKnown, AreLawful};
 ghost use Rattle.hg_log.specs.code.Inside.{IsAt};
+ghost use Rattle.hg_log.specs.code.Texts.{text_in};
 ghost use Rattle.hg_log.specs.Add.{IsAnswer, IsBase, HasParentsIn, HasOutcome, AddLeaves, Agrees, told_as};
 ghost use Rattle.hg_log.specs.Answer.{text_of, answer_of};
 
 use crate::changelog::{Changelog, Row};
 use crate::graph::Parents;
-use crate::node::node_id_by;
-use hg_delta::{DeltaFault, apply, every_delta_has_an_outcome, one_outcome};
-use hg_types::{Entry, NoMemory, Node, Seq};
-use std::alloc::Allocator;
+use crate::node::{node_id, node_id_behind};
+use hg_delta::{DeltaFault, apply, every_delta_has_an_outcome, one_outcome, whole_text};
+use hg_types::{Delta, Entry, NoMemory, Node, Seq};
+use std::alloc::{Allocator, Global};
+use std::mem;
 use thiserror::Error;
 
 /// What became of an entry that is right.
@@ -65,34 +67,32 @@ impl From<DeltaFault> for AddFault {
 
 impl<A: Allocator + Copy> Changelog<A> {
     /// Adds the changeset of an entry, unless its id is known. The log is unchanged but where the answer is
-    /// `New`.
+    /// `New`. A text that the delta carries whole takes the delta's memory over, so the entry may have no delta then.
     ///
     /// `NoMemory` may stand in place of any other answer where a growth was refused.
-    pub fn add(&mut self, entry: &Entry<A>) -> Result<Added, AddFault>
-        ensures answer { result ≢ Err AddFault.NoMemory → IsAnswer self.old entry.now result self.new }
+    pub fn add(&mut self, entry: &mut Entry<A>) -> Result<Added, AddFault>
+        ensures answer { result ≢ Err AddFault.NoMemory → IsAnswer self.old entry.old result self.new }
         // So the result and the new log are the one answer as a value, unless memory was refused.
-        ensures value { result ≢ Err AddFault.NoMemory → (result, self.new) ≡ answer_of self.old entry.now }
-        ensures leaves { IfOk result (λ added. AddLeaves self.old entry.now added self.new) }
+        ensures value { result ≢ Err AddFault.NoMemory → (result, self.new) ≡ answer_of self.old entry.old }
+        ensures leaves { IfOk result (λ added. AddLeaves self.old entry.old added self.new) }
         ensures err { OnErr result (self.new ≡ self.old) }
+        ensures ids { entry.new ≡ record entry.old { delta = entry.new.delta } }
     {
         if self.knows(&entry.node) {
             return Ok(Added::Known);
         }
         let parents = self.parents_of(entry)?;
         let text = self.text_of(entry)?;
-        if !agrees(entry, text.as_slice()) {
+        if !agrees(entry, &text) {
             return Err(AddFault::HashMismatch);
         }
         let rev = self.len();
         if rev >= self.limits.revisions as usize {
             return Err(AddFault::TooMany);
         }
-        let row = Row {
-            p1: entry.p1,
-            p2: entry.p2,
-            text,
-        };
-        match self.append(entry.node, row, parents) {
+        let (node, p1, p2) = (entry.node, entry.p1, entry.p2);
+        let text = text.taken_from(*self.rows.allocator(), entry);
+        match self.append(node, Row { p1, p2, text }, parents) {
             Ok(()) => Ok(Added::New(rev as u32)),
             Err(NoMemory) => Err(AddFault::NoMemory),
         }
@@ -144,29 +144,63 @@ impl<A: Allocator + Copy> Changelog<A> {
     }
 
     /// The text of an entry whose parents are known.
-    fn text_of(&self, entry: &Entry<A>) -> Result<Seq<u8, A>, AddFault>
+    fn text_of(&self, entry: &Entry<A>) -> Result<Text<A>, AddFault>
         requires { HasParentsIn self.now.rows entry.now }
-        ensures text { IfOk result (λ text. HasOutcome self.now entry.now (Ok text)) }
+        ensures text { IfOk result (λ text. HasOutcome self.now entry.now (Ok (text_in entry.now text))) }
         ensures fault { IfErr result (λ fault. fault ≢ AddFault.NoMemory →
             IsAnswer self.now entry.now (Err fault) self.now) }
-        ensures value { result ≢ Err AddFault.NoMemory → result ≡ text_of self.now entry.now }
+        ensures value { IfOk result (λ text. Ok (text_in entry.now text) ≡ text_of self.now entry.now) }
+        ensures fault_value { IfErr result (λ fault. fault ≢ AddFault.NoMemory →
+            Err fault ≡ text_of self.now entry.now) }
     {
         let Some(base) = self.base(&entry.base) else {
             return Err(AddFault::UnknownBase);
         };
+        let delta = entry.delta.as_slice();
+        if let Some(head) = whole_text(base, delta, self.limits.text) {
+            return Ok(Text::Behind(head));
+        }
         let alloc = *self.rows.allocator();
-        match apply(alloc, base, entry.delta.as_slice(), self.limits.text) {
-            Ok(text) => Ok(Seq::from_vec(text)),
+        match apply(alloc, base, delta, self.limits.text) {
+            Ok(text) => Ok(Text::Made(Seq::from_vec(text))),
             Err(fault) => Err(AddFault::from(fault)),
         }
     }
 }
 
+/// The text of an entry.
+#[derive(Drop)]
+pub(crate) enum Text<A: Allocator = Global> {
+    /// What its delta has after the first so many bytes.
+    Behind(u32),
+    Made(Seq<u8, A>),
+}
+
+impl<A: Allocator> Text<A> {
+    /// The bytes of the text of that entry. Where they are in its delta, that has none then.
+    fn taken_from(self, alloc: A, entry: &mut Entry<A>) -> Seq<u8, A>
+        ensures text { result ≡ text_in entry.old self }
+        ensures ids { entry.new ≡ record entry.old { delta = entry.new.delta } }
+    {
+        match self {
+            Text::Behind(head) => {
+                let none = Delta::of(Seq::new(alloc));
+                mem::replace(&mut entry.delta, none).into_text(head)
+            }
+            Text::Made(text) => text,
+        }
+    }
+}
+
 /// Whether the id of an entry is that of a changeset with this text.
-fn agrees<A: Allocator>(entry: &Entry<A>, text: &[u8]) -> bool
-    ensures { IsTrue result ↔ Agrees entry.now text.now }
+fn agrees<A: Allocator>(entry: &Entry<A>, text: &Text<A>) -> bool
+    ensures { IsTrue result ↔ Agrees entry.now (text_in entry.now text.now) }
 {
-    node_id_by(&entry.delta, &entry.p1, &entry.p2, text) == entry.node
+    let id = match text {
+        Text::Behind(head) => node_id_behind(*head, &entry.delta, &entry.p1, &entry.p2),
+        Text::Made(text) => node_id(&entry.p1, &entry.p2, text.as_slice()),
+    };
+    id == entry.node
 }
 
 /// Every entry whose delta is bytes has an answer: the value that `answer_of` gives. `A` is where the entry

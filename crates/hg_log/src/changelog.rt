@@ -255,6 +255,13 @@ impl<A: Allocator> Changelog<A> {
 }
 
 impl<A: Allocator + Copy> Changelog<A> {
+    /// Asks at once for the memory of so many rows more. Where it is refused, it is asked for as they come.
+    pub fn reserve(&mut self, count: usize)
+        ensures { self.new ≡ self.old }
+    {
+        let _has_room = self.rows.reserve(count);
+    }
+
     /// Adds a row that is lawful. The log is unchanged where memory is refused.
     pub(crate) fn append(
         &mut self,

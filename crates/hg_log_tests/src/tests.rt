@@ -2,6 +2,7 @@
 
 mod hashed;
 mod memory;
+mod taken;
 
 ghost use Rattle.std.specs.Prelude.{◌<◌, IsTrue, length};
 ghost use Rattle.hg_log.specs.Parents.{parents_of, IsParentIn};
@@ -142,7 +143,7 @@ fn put<A: Allocator + Copy>(
     let Ok(delta) = whole(alloc, given.text) else {
         return Err(AddFault::NoMemory);
     };
-    log.add(&Entry {
+    log.add(&mut Entry {
         node: given.node,
         p1: given.p1,
         p2: given.p2,
@@ -304,7 +305,7 @@ fn put_on_r(alloc: Global, log: &mut Changelog) -> Result<Added, AddFault> {
     let Ok(delta) = hunk(alloc, 0, 1, b"b") else {
         return Err(AddFault::NoMemory);
     };
-    log.add(&Entry {
+    log.add(&mut Entry {
         node: CHILD_B,
         p1: ROOT,
         p2: NULL,
@@ -573,7 +574,7 @@ fn put_short(
     let Ok(delta) = Seq::copy_of(alloc, b"short") else {
         return Err(AddFault::NoMemory);
     };
-    log.add(&Entry {
+    log.add(&mut Entry {
         node: ROOT,
         p1,
         p2,

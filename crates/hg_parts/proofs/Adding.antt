@@ -4,7 +4,9 @@ use Rattle.std.proofs.Common.{◌≡◌, ◌⊎◌, ℕ, ◌+◌, ◌<◌, Bool,
 use Rattle.std.proofs.Common.{◌++◌, length, take, drop, get_or, Option, Some, None, is_some, nat_lt}
 use Rattle.std.proofs.Common.{bytes_eq, cond, Result, Ok, Err, inl, inr, refl, sym, ap, ◌∙◌, subst, arith}
 use Rattle.std.proofs.lemmas.Bool.{ltb-true, lt-ltb}
-use Rattle.std.proofs.lemmas.List.{take-append-le, length-append, length_push, drop_more}
+use Rattle.std.proofs.lemmas.List.{take-append-le, length-append, length_push, drop_more, drop-drop, drop-set-lt}
+use Rattle.std.proofs.lemmas.List.{get_or-drop}
+use Rattle.std.proofs.Math.ListN.{set}
 use Rattle.std.proofs.Math.Seq.{drop-length, take-length}
 use Rattle.std.specs.List.{prefix_len, position_or_len}
 use Rattle.hg_types.specs.declared.entry.Entry.{Entry}
@@ -158,6 +160,22 @@ module _ {A : Type 0} (settings : Settings) (old : Store A) (log : Log) (entry :
   }
 
 -- ---- all entries
+
+-- where all from a place on are as they were, so is the one at that place
+pub as_it_was : {X : Type 0} (old new : List X) (i : ℕ) (d : X) → drop i new ≡ drop i old
+    → get_or new i d ≡ get_or old i d
+as_it_was {X} old new i d same =
+    sym (first new) ∙ ap (λ (l : List X). get_or l 0 d) same ∙ first old
+  where
+    first : (l : List X) → get_or (drop i l) 0 d ≡ get_or l i d
+    first l = get_or-drop i l 0 d ∙ ap (λ (n : ℕ). get_or l n d) (omega arith)
+
+-- and those behind it are, whatever is put in its place
+pub behind_it : {X : Type 0} (old new : List X) (i : ℕ) (y : X) → drop i new ≡ drop i old
+    → drop (i + 1) (set new i y) ≡ drop (i + 1) old
+behind_it {X} old new i y same =
+    drop-set-lt (i + 1) new i y (omega arith)
+    ∙ sym (drop-drop 1 i new) ∙ ap (drop 1) same ∙ drop-drop 1 i old
 
 -- the entry at that place decides what follows
 add_next : {A : Type 0} (limits : Limits) (t : Phase) (entries : List (Entry A)) (i : ℕ) (entry : Entry A)

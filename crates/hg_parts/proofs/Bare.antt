@@ -1,7 +1,6 @@
 -- The reply that a part leaves has no payload, for each type of part.
-use Rattle.std.proofs.Common.{◌≡◌, ℕ, Bool, true, false, cond, List, [], codes, Option, Some, None, Result}
+use Rattle.std.proofs.Common.{◌≡◌, ℕ, Bool, true, false, cond, List, [], Option, Some, None, Result}
 use Rattle.std.proofs.Common.{Ok, Err, IfSome, refl, subst}
-use Rattle.std.specs.Prelude.{decimal}
 use Rattle.hg_types.specs.declared.node.Node.{Node}
 use Rattle.hg_types.specs.declared.entry.Entry.{Entry}
 use Rattle.hg_types.specs.declared.part.Part.{Part}

@@ -4,14 +4,11 @@ use Rattle.std.proofs.Common.{sym, ap, ◌∙◌, arith}
 use Rattle.std.proofs.Math.Seq.{take-length}
 use Rattle.std.proofs.lemmas.List.{take-append-le, length-append}
 use Rattle.hg_types.specs.declared.limits.Settings.{Settings}
-use Rattle.hg_phases.specs.Phases.{AreFor, Saved as SavedPhases}
 use Rattle.hg_phases.proofs.CallerLemmas.{for_none}
 use Rattle.hg_obs.specs.declared.marker.Marker.{Marker}
 use Rattle.hg_obs.specs.Markers.{fresh, merged, AreLawful as AreLawfulMarkers}
-use Rattle.hg_keys.specs.Bookmarks.{Saved as MarkedBookmarks}
 use Rattle.hg_parts.specs.declared.store.Store.{Store}
 use Rattle.hg_parts.specs.declared.store.StoreSavepoint.{StoreSavepoint}
-use Rattle.hg_keys.specs.Known.{AreOnKnown}
 use Rattle.hg_parts.specs.Store.{IsSound, IsGrown, empty_store, with_savepoints, without_savepoints, CanGoBack}
 
 take_less : {X : Type 0} (n m : ℕ) (xs : List X) → n ≤ m → take n (take m xs) ≡ take n xs

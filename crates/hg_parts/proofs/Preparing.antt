@@ -1,6 +1,6 @@
 -- What is read of a part is handled as the part is, and what is kept of it is enough.
 use Rattle.std.proofs.Common.{ℕ, ◌≡◌, ◌∙◌, Bool, false, List, [], ◌∷◌, Option, Some, None, Result, Ok, Err}
-use Rattle.std.proofs.Common.{refl, sym, ap}
+use Rattle.std.proofs.Common.{refl, sym, ap, subst}
 use Rattle.hg_types.specs.declared.entry.Entry.{Entry}
 use Rattle.hg_types.specs.declared.node.Node.{Node}
 use Rattle.hg_types.specs.declared.part.Part.{Part}
@@ -26,8 +26,10 @@ use Rattle.hg_parts.specs.PartTypes.{Row, Support, Supported, Unsupported, suppo
 use Rattle.hg_parts.specs.PartTypes.{unknown_names}
 use Rattle.hg_parts.specs.PartTypes.{names_against, unsupported_names, is_reply_caps, row_of}
 use Rattle.hg_parts.specs.Handle.{handle, handle_as}
-use Rattle.hg_parts.specs.Prepared.{handle_reading, is_read, is_replycaps, kept_where, read_as, reading_of}
+use Rattle.hg_parts.specs.Prepared.{handle_reading, is_read, is_replycaps, kept_where, kept_with, read_as, reading_of}
 use Rattle.hg_parts.specs.Prepared.{IsMadeOf}
+use Rattle.hg_parts.specs.declared.sent.Held.TheVariants.{Read}
+use Rattle.hg_parts.specs.code.Sent.{part_in}
 use Rattle.hg_parts.specs.parts.Unsupported.{handle_unsupported}
 use Rattle.hg_parts.specs.parts.Changegroup.{handle_decoded, handle_entries, handle_target}
 use Rattle.hg_parts.specs.parts.Changegroup.{reading_in as group_in, target_of, version_of}
@@ -157,3 +159,15 @@ pub made_starts : {A : Type 0} (part : Part A) (prepared : Prepared A) → IsMad
 unfolding IsMadeOf
 made_starts {A} part prepared made = ap (λ (p : Prepared A). is_replycaps p.reading) made
     ∙ support_starts part (support_of part)
+
+-- what was read of a part, and what else is kept of it, may have been made of it
+pub made_of : {A : Type 0} (part : Part A) (told : Reading A) (prepared : Prepared A) → told ≡ reading_of part
+    → prepared ≡ kept_with part told → IsMadeOf part prepared
+unfolding IsMadeOf
+made_of part told prepared read kept = kept ∙ ap (kept_with part) read
+
+-- and so where the part was noted
+pub noted_is : {A : Type 0} (part : Part A) (prepared : Prepared A) (noted : List (Part A)) → noted ≡ part ∷ []
+    → IsMadeOf part prepared → IsMadeOf (part_in (Read prepared) noted) prepared
+noted_is {A} part prepared noted is made =
+    subst (λ (l : List (Part A)). IsMadeOf (part_in (Read prepared) l) prepared) (sym is) made

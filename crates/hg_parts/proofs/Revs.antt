@@ -1,6 +1,6 @@
 -- The numbers of a changegroup's changesets, and the text of its reply.
 use Rattle.std.proofs.Common.{◌≡◌, ◌≢◌, ℕ, ◌+◌, ◌-◌, ◌<◌, ◌≤◌, ◌^◌, List, [], ◌∷◌, ◌++◌, length, take}
-use Rattle.std.proofs.Common.{get_or, All, Option, Some, None, IfSome, inl, inr, Bool, true, false, nat_le}
+use Rattle.std.proofs.Common.{get_or, All, Option, Some, None, IfSome, inl, inr, Bool, true, false, nat_le, map}
 use Rattle.std.proofs.Common.{cond}
 use Rattle.std.proofs.Common.{codes, decimal, refl, sym, ap, ◌∙◌, subst, arith}
 use Rattle.std.specs.Prelude.{bytes_eq, nat_lt}
@@ -17,11 +17,17 @@ use Rattle.std.specs.Option.{option_to_list}
 use Rattle.hg_types.specs.declared.entry.Entry.{Entry}
 use Rattle.hg_log.specs.Rows.{AreLawful, HasNode}
 use Rattle.hg_log.specs.Changeset.{Changeset}
-use Rattle.hg_log.specs.Parents.{rev_of}
+use Rattle.hg_log.specs.Parents.{parents_of, rev_of}
+use Rattle.hg_types.specs.declared.node.Node.{Node}
+use Rattle.hg_types.specs.declared.phase.Phase.{Phase}
+use Rattle.hg_phases.specs.Phases.{advanced}
 use Rattle.hg_types.specs.declared.part.Part.{Part}
 use Rattle.hg_parts.specs.Replies.{reply_where}
 use Rattle.hg_parts.specs.code.Replies.{CanReply}
-use Rattle.hg_parts.specs.parts.Changegroup.{revs_of, result_text}
+use Rattle.hg_parts.specs.declared.source.Source.{Source}
+use Rattle.hg_parts.specs.declared.source.Source.TheVariants.{Push, Seed}
+use Rattle.hg_parts.specs.parts.Changegroup.{Grown, phases_after, revs_of, result_text}
+use Rattle.hg_parts.specs.code.Changegroup.{AreOfSameIds}
 
 -- what a test gives of one more
 pub some_more : {X Y : Type 0} (h : X → Option Y) (xs : List X) (i : ℕ) (d : X) → i < length xs
@@ -44,6 +50,26 @@ revs_more {A} rows entries i entry within here =
     some_more (λ (e : Entry A). rev_of rows e.node.0) entries i entry within
     ∙ ap (λ (e : Entry A). revs_of rows (take i entries) ++ option_to_list (rev_of rows e.node.0))
     (sym here)
+
+-- the numbers of entries are those of their ids
+pub revs_same : {A : Type 0} (rows : List Changeset) (old new : List (Entry A)) → AreOfSameIds old new
+    → revs_of rows new ≡ revs_of rows old
+unfolding revs_of
+revs_same {A} rows old new same =
+    sym (by_ids new) ∙ ap (filter_map (λ (id : Node). rev_of rows id.0)) same ∙ by_ids old
+  where
+    by_ids : (entries : List (Entry A)) → filter_map (λ (id : Node). rev_of rows id.0)
+        (map (λ (entry : Entry A). entry.node) entries)
+        ≡ filter_map (λ (entry : Entry A). rev_of rows entry.node.0) entries
+    by_ids [] = refl
+    by_ids (entry ∷ entries) = ap (cons_option (rev_of rows entry.node.0)) (by_ids entries)
+
+-- so what a push advances is told by the ids
+pub phases_same : {A : Type 0} (source : Source) (t : Phase) (old new : List (Entry A)) (grown : Grown)
+    → AreOfSameIds old new → phases_after source t new grown ≡ phases_after source t old grown
+phases_same Push t old new grown same =
+    ap (λ revs. advanced (parents_of grown.rows) t revs grown.phases) (revs_same grown.rows old new same)
+phases_same Seed t old new grown same = refl
 
 pub within_more : (n : ℕ) (xs : List ℕ) (o : Option ℕ) → All (λ x. x < n) xs
     → ((x : ℕ) → o ≡ Some x → x < n) → All (λ x. x < n) (xs ++ option_to_list o)

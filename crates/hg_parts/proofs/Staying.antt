@@ -49,7 +49,7 @@ use Rattle.hg_parts.specs.declared.table.PartType.TheVariants.{ChangeGroup, Phas
 use Rattle.hg_parts.specs.declared.table.PartType.TheVariants.{Pushkey}
 use Rattle.hg_parts.specs.declared.table.PartType.TheVariants.{Output, ErrorAbort}
 use Rattle.hg_parts.specs.Repository.{Repository, IsLawful, empty_with}
-use Rattle.hg_parts.specs.Handled.{Handled, Outcome}
+use Rattle.hg_parts.specs.Handled.{Outcome}
 use Rattle.hg_parts.specs.PartTypes.{Support, Supported, Unsupported, is_mandatory, race_text, support_of}
 use Rattle.hg_parts.specs.parts.Unsupported.{handle_unsupported}
 use Rattle.hg_parts.specs.parts.Check.{handle_checked}

@@ -1,9 +1,7 @@
 -- What stands against a part, for the table of part types.
 use Rattle.std.proofs.Common.{option_map, find, Option, Some}
 use Rattle.std.proofs.Common.{◌≡◌, true≢false, Bool, true, false, ◌||◌, List, [], ◌∷◌, map, filter, refl}
-use Rattle.std.proofs.Common.{sym, ap, ◌∙◌, cond, ℕ, ◌+◌, ◌<◌, ◌++◌, length, take, get_or, append-nil}
-use Rattle.std.proofs.lemmas.List.{map-append}
-use Rattle.std.proofs.lemmas.List.Elements.{filter_more}
+use Rattle.std.proofs.Common.{sym, ap, ◌∙◌, cond, ℕ}
 use Rattle.std.specs.List.{list_any}
 use Rattle.hg_types.specs.declared.part.Param.{Param}
 use Rattle.hg_parts.specs.declared.table.PartType.{PartType}

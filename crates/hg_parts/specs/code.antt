@@ -4,3 +4,4 @@ pub mod PhaseHeads
 pub mod Pushkey
 pub mod Handled
 pub mod Replies
+pub mod Sent

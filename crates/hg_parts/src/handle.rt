@@ -18,9 +18,10 @@ use crate::parts::pushkey::handle_pushkey;
 use crate::parts::unsupported::handle_unsupported;
 use crate::prepared::{Prepared, Reading, read_part};
 use crate::refusal::Refusal;
+use crate::spent::{Leftover, Spent};
 use crate::store::Store;
 use crate::turn::Turn;
-use hg_types::Part;
+use hg_types::{Part, Seq};
 use std::alloc::Allocator;
 
 /// Handles the part in its turn, as the definition `handle` says. `NoMemory` stands in place of any other
@@ -39,15 +40,18 @@ pub fn handle_part<A: Allocator + Copy>(
         store.old store.new result }
 {
     let reading = read_part(alloc, part)?;
-    handle_reading(alloc, store, turn, reading, part)
+    let mut leftover = Leftover::Nothing;
+    handle_reading(alloc, store, turn, reading, part, &mut leftover)
 }
 
-/// Handles a part that was prepared, as [`handle_part`] handles each part that it may have been made of.
+/// Handles a part that was prepared, as [`handle_part`] handles each part that it may have been made of. What is
+/// left over of it is spent.
 pub fn handle_prepared<A: Allocator + Copy>(
     alloc: A,
     store: &mut Store<A>,
     turn: Turn,
     prepared: Prepared<A>,
+    spent: &mut Spent<A>,
 ) -> Result<Option<Part<A>>, Refusal<A>>
     requires { IsSound turn.settings store.old }
     ensures sound { OnOk result (IsSound turn.settings store.new) }
@@ -58,17 +62,22 @@ pub fn handle_prepared<A: Allocator + Copy>(
         (repository_of turn.settings store.new) result }
 {
     let Prepared { reading, part } = prepared;
-    handle_reading(alloc, store, turn, reading, part.as_part())
+    let mut leftover = Leftover::Nothing;
+    let handled = handle_reading(alloc, store, turn, reading, part.as_part(), &mut leftover);
+    spent.keep(leftover);
+    spent.keep(Leftover::Part(part));
+    handled
 }
 
 /// Handles what was read of a part, as the definition `handle_reading` says. Of a part whose payload was
-/// read, the rest is enough.
+/// read, the rest is enough. A list that was read is left over.
 fn handle_reading<A: Allocator + Copy>(
     alloc: A,
     store: &mut Store<A>,
     turn: Turn,
     reading: Reading<A>,
     part: &Part<A>,
+    leftover: &mut Leftover<A>,
 ) -> Result<Option<Part<A>>, Refusal<A>>
     requires { IsSound turn.settings store.old }
     ensures { Handles turn
@@ -88,11 +97,22 @@ fn handle_reading<A: Allocator + Copy>(
             handle_check(alloc, store, place, part, kind)?;
             Ok(None)
         }
-        Reading::PhaseHeads(entries) => handle_phase_heads(alloc, store, turn, entries.as_slice()),
+        Reading::PhaseHeads(entries) => {
+            let handled = handle_phase_heads(alloc, store, turn, entries.as_slice());
+            *leftover = Leftover::Heads(entries);
+            handled
+        }
         Reading::Bookmarks => handle_bookmarks(alloc, store, turn, part),
         Reading::Obsmarkers(markers) => handle_markers(alloc, store, turn, part, markers),
-        Reading::ChangeGroup { target, entries } => {
-            handle_group(alloc, store, turn, part, target, entries.as_slice())
+        Reading::ChangeGroup {
+            target,
+            entries: mut list,
+        } => {
+            let mut entries = list.take().into_vec();
+            let handled = handle_group(alloc, store, turn, part, target, entries.as_mut_slice());
+            list.put(Seq::from_vec(entries));
+            *leftover = Leftover::Group(list);
+            handled
         }
         Reading::Pushkey => handle_pushkey(alloc, store, turn, part),
         Reading::ErrorAbort => Err(Refusal::ClientAbort { place }),

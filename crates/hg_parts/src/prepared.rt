@@ -53,6 +53,9 @@ pub struct Prepared<A: Allocator = Global> {
     pub(crate) part: BoxedPart<A>,
 }
 
+/// The bytes of a payload from which on it may have several texts.
+const SEVERAL: usize = 512;
+
 /// Reads a part as far as that goes without the repository, and drops what was read.
 #[tactic(auto, unfolding(crate::specs::Prepared::IsMadeOf))]
 pub fn prepare<A: Allocator + Copy>(alloc: A, part: BoxedPart<A>) -> Result<Prepared<A>, NoMemory>
@@ -75,6 +78,35 @@ pub fn hash_ahead<A: Allocator + Copy>(mut part: BoxedPart<A>) -> BoxedPart<A>
     part
 }
 
+/// The same where there may be several texts, which are hashed side by side in less time. One alone is as well hashed in
+/// its turn, where nobody waits for that.
+pub fn hash_several<A: Allocator + Copy>(part: BoxedPart<A>) -> BoxedPart<A>
+    ensures { result ≡ part }
+{
+    if part.as_part().payload.len() < SEVERAL {
+        return part;
+    }
+    hash_ahead(part)
+}
+
+/// The same for each of these parts.
+pub fn hash_several_of_each<A: Allocator + Copy>(parts: &mut [Part<A>])
+    ensures { parts.new ≡ parts.old }
+{
+    'parts: for number in 0..parts.len() {
+        hash_part(&mut parts[number]);
+    }
+}
+
+/// The same for a part that stands where it is.
+fn hash_part<A: Allocator + Copy>(part: &mut Part<A>)
+    ensures { part.new ≡ part.old }
+{
+    if part.payload.len() >= SEVERAL && is_group_with_bases(part) {
+        hash_texts(&mut part.payload);
+    }
+}
+
 /// Whether the part is a changegroup of the version that names the base of each delta.
 fn is_group_with_bases<A: Allocator>(part: &Part<A>) -> bool {
     matches!(supported_type(part), Some(PartType::ChangeGroup))
@@ -91,7 +123,7 @@ impl<A: Allocator> Prepared<A> {
 }
 
 /// What is kept of a part that was read so.
-fn keep<A: Allocator + Copy>(mut part: BoxedPart<A>, reading: Reading<A>) -> Prepared<A>
+pub(crate) fn keep<A: Allocator + Copy>(mut part: BoxedPart<A>, reading: Reading<A>) -> Prepared<A>
     ensures { result ≡ kept_with part reading }
 {
     if is_read(&reading) {

@@ -18,6 +18,9 @@
 //! - another version, another phase, a payload that ends early: `version` `03`; `targetphase` `3`;
 //!   11 zero bytes. Result: BadPart.
 //! - no changesets: `nbchanges` `9` and 12 zero bytes. Result: `return` 1.
+//! - groups in each way: A and four changesets, some of them whole in their deltas; then two of them
+//!   again, and two on their texts. Each is handled at once, in its turn, when it was read ahead, and as
+//!   a copy. Result: `return` 1; `return` 2, and the texts of seven.
 //! - each growth refused: A and a child of it over heaps of 16 to 8,176 bytes. Result: NoMemory and
 //!   no row, or `return` 1 and two rows; both occur.
 #![tactic(auto)]

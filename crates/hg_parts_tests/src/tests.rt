@@ -3,14 +3,16 @@
 
 mod ahead;
 mod ample;
+mod groups;
 mod heads;
+mod sent;
 mod steps;
 
 ghost use Rattle.hg_parts.specs.Store.{IsSound};
 
 use hg_log::node_id;
 use hg_parts::{
-    Prepared, RaceText, Refusal, Source, Store, Turn, handle_part, handle_prepared, prepare,
+    Prepared, RaceText, Refusal, Source, Spent, Store, Turn, handle_part, handle_prepared, prepare,
     starts_replies,
 };
 use hg_types::{
@@ -318,7 +320,7 @@ fn came_on(
         replying: true,
         place: 0,
     };
-    let answer = handle_prepared(alloc, &mut store, turn, prepared);
+    let answer = handle_prepared(alloc, &mut store, turn, prepared, &mut Spent::new());
     let came = came_of(&answer);
     let rows = store.log.len();
     drop(answer);

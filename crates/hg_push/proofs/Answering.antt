@@ -1,7 +1,7 @@
 -- What calls of a book may answer, one by one and as a list.
 use Rattle.std.proofs.Common.{ℕ, Bool, true, false, cond, ◌≡◌, List, [], ◌∷◌, ◌++◌, refl, sym, arith, length}
 use Rattle.std.proofs.Common.{Option, Some, None, Ok}
-use Rattle.hg_types.specs.declared.item.Item.{Item}
+use Rattle.hg_parts.specs.declared.item.Item.{Item}
 use Rattle.hg_push.specs.declared.calls.Answer.{Answer}
 use Rattle.hg_push.specs.declared.calls.Answer.TheVariants.{Opened, Reply, Stepped}
 use Rattle.hg_push.specs.declared.calls.Call.{Call}

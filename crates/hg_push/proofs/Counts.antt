@@ -5,10 +5,10 @@ use Rattle.std.specs.List.{Contains}
 use Rattle.std.proofs.lemmas.List.{get_or_append_left, get_or_at}
 use Rattle.std.proofs.lemmas.Bool.{cases_lt}
 use Rattle.std.proofs.lemmas.List.Folds.{list_any_at}
-use Rattle.hg_types.specs.declared.item.CutReason.{CutReason}
-use Rattle.hg_types.specs.declared.item.Item.{Item}
-use Rattle.hg_types.specs.declared.item.What.{What}
-use Rattle.hg_types.specs.declared.item.What.TheVariants.{Part as a_part, End, Cut}
+use Rattle.hg_parts.specs.declared.item.CutReason.{CutReason}
+use Rattle.hg_parts.specs.declared.item.Item.{Item}
+use Rattle.hg_parts.specs.declared.item.What.{What}
+use Rattle.hg_parts.specs.declared.item.What.TheVariants.{Part as a_part, End, Cut}
 use Rattle.hg_types.specs.declared.part.Part.{Part}
 use Rattle.hg_push.specs.Complete.{IsComplete}
 use Rattle.hg_push.specs.History.{is_mark, part_in}

@@ -6,7 +6,7 @@ use Rattle.std.specs.List.{AllByRecursion, count_by}
 use Rattle.std.proofs.lemmas.Bool.Decides.{nat_tests}
 use Rattle.std.proofs.lemmas.List.Folds.{find-append}
 use Rattle.std.proofs.lemmas.List.Sums.{count_by-le-length}
-use Rattle.hg_types.specs.declared.item.Taken.{Taken}
+use Rattle.hg_parts.specs.declared.item.Taken.{Taken}
 use Rattle.hg_push.specs.declared.row.Row.{Row}
 use Rattle.hg_push.specs.declared.row.State.{State}
 use Rattle.hg_push.specs.declared.row.State.TheVariants.{Open}

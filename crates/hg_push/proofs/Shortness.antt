@@ -3,8 +3,8 @@ use Rattle.std.proofs.Common.{ℕ, ◌≡◌, ◌<◌, ◌≤◌, ◌^◌, List,
 use Rattle.std.proofs.Common.{Some}
 use Rattle.std.proofs.lemmas.List.Elements.{All-cons}
 use Rattle.hg_types.specs.declared.part.Part.{Part}
-use Rattle.hg_types.specs.declared.item.CutReason.{CutReason}
-use Rattle.hg_types.specs.declared.item.CutReason.TheVariants.{Stream, ReadFailed, GaveUp}
+use Rattle.hg_parts.specs.declared.item.CutReason.{CutReason}
+use Rattle.hg_parts.specs.declared.item.CutReason.TheVariants.{Stream, ReadFailed, GaveUp}
 use Rattle.hg_stream.specs.Lengths.{AreShortIfBare}
 use Rattle.hg_parts.specs.declared.refusal.Refusal.{Refusal}
 use Rattle.hg_parts.specs.declared.refusal.Refusal.TheVariants.{Unsupported, Raced, KeyFailed, BadPart}

@@ -1,11 +1,11 @@
 -- What a part, a cut and an end mark do to a row, whatever parts its staged list stands for.
-use Rattle.std.proofs.Common.{ℕ, Bool, true, false, true≢false, ◌≡◌, ◌==◌, ◌<◌, ◌^◌, ◌+◌, List, [], ◌∷◌, ◌++◌}
+use Rattle.std.proofs.Common.{ℕ, Bool, true, false, true≢false, ◌≡◌, ◌==◌, ◌<◌, ◌^◌, List, [], ◌∷◌, ◌++◌}
 use Rattle.std.proofs.Common.{length, refl, sym, ap, subst, arith, Ok, Err}
 use Rattle.std.specs.Bool.{OnTrue, OnFalse}
 use Rattle.std.proofs.lemmas.Bool.Decides.{nat_tests}
 use Rattle.hg_types.specs.declared.part.Part.{Part}
-use Rattle.hg_types.specs.declared.item.What.TheVariants.{Part as a_part, End, Cut}
-use Rattle.hg_types.specs.declared.item.CutReason.{CutReason}
+use Rattle.hg_parts.specs.declared.item.What.TheVariants.{Part as a_part, End, Cut}
+use Rattle.hg_parts.specs.declared.item.CutReason.{CutReason}
 use Rattle.hg_parts.specs.declared.prepared.Prepared.{Prepared}
 use Rattle.hg_parts.specs.Prepared.{IsMadeOf}
 use Rattle.hg_push.specs.declared.outcome.Reason.{Reason}

@@ -5,7 +5,7 @@ use Rattle.std.specs.List.{count_by}
 use Rattle.std.proofs.Math.ListN.{set, get_or}
 use Rattle.std.proofs.lemmas.Bool.Decides.{nat_tests}
 use Rattle.std.proofs.lemmas.List.Sums.{sum_by-set, sum_by-remove}
-use Rattle.hg_types.specs.declared.item.What.{What}
+use Rattle.hg_parts.specs.declared.item.What.{What}
 use Rattle.hg_push.specs.declared.row.Row.{Row}
 use Rattle.hg_push.specs.History.{History, Running}
 use Rattle.hg_push.specs.Rows.{row_of, is_open, IsShut}

@@ -1,7 +1,7 @@
 -- What a history keeps where the late items of a push are taken out.
 use Rattle.std.proofs.Common.{ℕ, Bool, true, false, ◌≡◌, ◌&&◌, not, [], ◌∷◌, refl, arith, if◌then◌else◌}
 use Rattle.std.proofs.lemmas.Bool.Decides.{nat_tests}
-use Rattle.hg_types.specs.declared.item.Taken.{Taken}
+use Rattle.hg_parts.specs.declared.item.Taken.{Taken}
 use Rattle.hg_push.specs.History.{History, Running, is_of, is_closed, parts, serial, outcome, told}
 use Rattle.hg_push.specs.Changed.{trimmed}
 

@@ -7,9 +7,9 @@ use Rattle.hg_push.specs.declared.outcome.Outcome.TheVariants.{Done}
 use Rattle.hg_push.specs.declared.outcome.Reason.{Reason}
 use Rattle.hg_push.specs.declared.outcome.Reason.TheVariants.{NoMemory}
 use Rattle.hg_types.specs.declared.part.Part.{Part}
-use Rattle.hg_types.specs.declared.item.What.{What}
-use Rattle.hg_types.specs.declared.item.What.TheVariants.{Part as a_part, End, Cut}
-use Rattle.hg_types.specs.declared.item.Taken.{Taken}
+use Rattle.hg_parts.specs.declared.item.What.{What}
+use Rattle.hg_parts.specs.declared.item.What.TheVariants.{Part as a_part, End, Cut}
+use Rattle.hg_parts.specs.declared.item.Taken.{Taken}
 use Rattle.hg_push.specs.History.{History, Running, Serial, is_of, closes, is_closed, parts, serial, outcome}
 use Rattle.hg_push.specs.History.{decided, decided_by, told, kept, is_mark}
 use Rattle.hg_push.specs.Changed.{is_done, without}

@@ -4,9 +4,9 @@ use Rattle.std.proofs.Common.{refl, sym, ◌∙◌, ap, subst, arith, append_ass
 use Rattle.std.specs.List.{AllByRecursion}
 use Rattle.std.proofs.lemmas.Bool.Decides.{nat_tests}
 use Rattle.std.proofs.lemmas.List.{append-nil}
-use Rattle.hg_types.specs.declared.item.Item.{Item}
-use Rattle.hg_types.specs.declared.item.Taken.{Taken}
-use Rattle.hg_types.specs.declared.item.What.{What}
+use Rattle.hg_parts.specs.declared.item.Item.{Item}
+use Rattle.hg_parts.specs.declared.item.Taken.{Taken}
+use Rattle.hg_parts.specs.declared.item.What.{What}
 use Rattle.hg_push.specs.History.{History, IsHistory, is_mark, is_of, may_refuse}
 use Rattle.hg_push.specs.World.{World, Event, start, happens, run_all, put, can_put, take_first, has_mark}
 use Rattle.hg_push.specs.World.{has_opened, is_full, items_in, items_of, next_item}

@@ -2,7 +2,7 @@
 use Rattle.std.specs.Prelude.{ℕ, Bool, true, ◌≡◌, ◌&&◌, ◌+◌, ◌<◌, ◌++◌, map, nat_le, nat_lt, List, [], ◌∷◌}
 use Rattle.std.specs.Prelude.{if◌then◌else◌}
 use Rattle.std.specs.List.{AllByRecursion}
-use Rattle.hg_types.specs.declared.item.Item.{Item}
+use Rattle.hg_parts.specs.declared.item.Item.{Item}
 use Rattle.hg_push.specs.declared.row.State.TheVariants.{Open}
 use Rattle.hg_push.specs.declared.row.Row.{Row}
 use Rattle.hg_push.specs.History.{History, Running, serial, parts, outcome, IsHistory}

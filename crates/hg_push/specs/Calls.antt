@@ -2,7 +2,7 @@
 use Rattle.std.specs.Prelude.{ℕ, Bool, true, ◌≡◌, ◌<◌, ◌≤◌, ◌+◌, ◌-◌, ◌^◌, ◌==◌, not, List, [], ◌∷◌, ◌++◌}
 use Rattle.std.specs.Prelude.{length, map, filter, Option, None, Some, Result, Ok, Err, if◌then◌else◌}
 use Rattle.std.specs.List.{list_any}
-use Rattle.hg_types.specs.declared.item.Item.{Item}
+use Rattle.hg_parts.specs.declared.item.Item.{Item}
 use Rattle.hg_push.specs.declared.book.OpenFault.{OpenFault}
 use Rattle.hg_push.specs.declared.book.OpenFault.TheVariants.{TooManyOpen, Exhausted, NoMemory}
 use Rattle.hg_push.specs.declared.calls.Call.{Call}

@@ -4,7 +4,7 @@ use Rattle.std.specs.Prelude.{if◌then◌else◌}
 use Rattle.hg_types.specs.declared.part.Part.{Part}
 use Rattle.hg_push.specs.declared.outcome.Outcome.TheVariants.{Done, Aborted}
 use Rattle.hg_push.specs.declared.outcome.Outcome.{Outcome}
-use Rattle.hg_types.specs.declared.item.Taken.{Taken}
+use Rattle.hg_parts.specs.declared.item.Taken.{Taken}
 use Rattle.hg_push.specs.History.{History, IsClosing, Running, is_of, is_closed}
 
 -- without the items of p after the place that closed it

@@ -1,8 +1,8 @@
 -- What a push that is answered as done had of its sender.
 use Rattle.std.specs.Prelude.{ℕ, ◌≡◌, ◌+◌, false, List, [], ◌∷◌, ◌++◌, length, MatchBool}
 use Rattle.hg_types.specs.declared.part.Part.{Part}
-use Rattle.hg_types.specs.declared.item.Item.{Item}
-use Rattle.hg_types.specs.declared.item.What.TheVariants.{End}
+use Rattle.hg_parts.specs.declared.item.Item.{Item}
+use Rattle.hg_parts.specs.declared.item.What.TheVariants.{End}
 use Rattle.hg_push.specs.History.{is_mark}
 use Rattle.hg_push.specs.World.{all_parts, has_mark}
 

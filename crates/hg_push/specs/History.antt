@@ -3,10 +3,10 @@
 use Rattle.std.specs.Prelude.{ℕ, Bool, true, false, ◌≡◌, ◌==◌, ◌&&◌, ◌||◌, not, List, [], ◌∷◌, ◌++◌, length}
 use Rattle.std.specs.Prelude.{Option, None, Some, Result, Ok, Err, if◌then◌else◌}
 use Rattle.hg_types.specs.declared.part.Part.{Part}
-use Rattle.hg_types.specs.declared.item.What.{What}
-use Rattle.hg_types.specs.declared.item.What.TheVariants.{Part as a_part, End, Cut}
-use Rattle.hg_types.specs.declared.item.Item.{Item}
-use Rattle.hg_types.specs.declared.item.Taken.{Taken}
+use Rattle.hg_parts.specs.declared.item.What.{What}
+use Rattle.hg_parts.specs.declared.item.What.TheVariants.{Part as a_part, End, Cut}
+use Rattle.hg_parts.specs.declared.item.Item.{Item}
+use Rattle.hg_parts.specs.declared.item.Taken.{Taken}
 use Rattle.hg_push.specs.declared.outcome.Reason.{Reason}
 use Rattle.hg_push.specs.declared.outcome.Reason.TheVariants.{Refused, Cut as cut, WrongIndex, NoMemory}
 use Rattle.hg_push.specs.declared.outcome.Outcome.{Outcome}

@@ -4,8 +4,8 @@ use Rattle.std.specs.Prelude.{ℕ, ◌<◌, ◌^◌, List, [], ◌∷◌, ◌++�
 use Rattle.std.specs.List.{join_with_byte}
 use Rattle.hg_types.specs.declared.part.Part.{Part}
 use Rattle.hg_types.specs.declared.part.Param.{Param}
-use Rattle.hg_types.specs.declared.item.CutReason.{CutReason}
-use Rattle.hg_types.specs.declared.item.CutReason.TheVariants.{Stream, ReadFailed, GaveUp}
+use Rattle.hg_parts.specs.declared.item.CutReason.{CutReason}
+use Rattle.hg_parts.specs.declared.item.CutReason.TheVariants.{Stream, ReadFailed, GaveUp}
 use Rattle.hg_keys.specs.declared.keys.KeyCall.{KeyCall}
 use Rattle.hg_stream.specs.Written.{bundle_bytes, CanBeWritten}
 use Rattle.hg_repo.specs.declared.done.Done.{Done}

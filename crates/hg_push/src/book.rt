@@ -11,14 +11,15 @@ ghost use Rattle.hg_push.specs.Reply.{CanBeTold};
 ghost use Rattle.hg_push.specs.Places.{TellsPlace};
 ghost use Rattle.hg_push.specs.Run.{RepositoryOf, run_push};
 
-use crate::journal::last_place;
+use crate::journal::{Places, place_of_push};
 use crate::outcome::{Outcome, Standing};
 use crate::row::{Row, State};
 use crate::step::{
     closed_place, has_push, open_place, outcome_of, place_of, row_standing, step_row,
 };
-use hg_repo::{Done, Refusal, Repo};
-use hg_types::{Item, Pages};
+use hg_parts::Item;
+use hg_repo::{Done, Refusal, Repo, Spent};
+use hg_types::Pages;
 use std::alloc::{Allocator, Global};
 use std::collections::VecDeque;
 use std::marker::Model;
@@ -48,6 +49,7 @@ pub struct Book<A: Allocator = Global> {
     first_push: u32,
     next: u32,
     limit: u32,
+    places: Places,
 }
 
 impl<A: Allocator> Model for Book<A> {
@@ -101,6 +103,7 @@ impl<A: Allocator + Copy> Book<A> {
             first_push,
             next: first_push,
             limit,
+            places: Places::new(),
         }
     }
 
@@ -167,9 +170,10 @@ impl<A: Allocator + Copy> Book<A> {
     /// aborts its push, and so does an end mark whose index is not the number of staged parts. Any other
     /// end mark runs the staged parts on the repository: the push is done, and its number joins the
     /// journal, or it is aborted. Where memory is refused while a part is staged or the parts are run,
-    /// the push is aborted. A push that is aborted leaves repository and journal as they were.
+    /// the push is aborted. A push that is aborted leaves repository and journal as they were. What is left
+    /// over of the push is spent.
     #[inline(always)]
-    pub fn step(&mut self, item: Item<A>) -> bool
+    pub fn step(&mut self, item: Item<A>, spent: &mut Spent<A>) -> bool
         ensures opened { result ≡ true → is_opened self.old item.push ≡ true }
         ensures dropped { IsShut item.push self.old.rows → (result ≡ false) × (self.new ≡ self.old) }
         ensures pushes { IsSameOpenings self.old self.new }
@@ -181,7 +185,15 @@ impl<A: Allocator + Copy> Book<A> {
             return false;
         };
         let row = &mut self.rows[at];
-        step_row(&mut self.repo, &mut self.journal, row, index, what)
+        step_row(
+            &mut self.repo,
+            &mut self.journal,
+            &mut self.places,
+            row,
+            index,
+            what,
+            spent,
+        )
     }
 
     /// Hands out how a closed push ended, and takes its row away. None, with nothing changed, where the push
@@ -207,12 +219,13 @@ impl<A: Allocator + Copy> Book<A> {
     }
 
     /// The place of a push in the journal: how many pushes were done before it. `None` where it is not done.
-    /// The journal is searched from its end, so the search is as long as pushes were done since.
+    /// It is one look, unless a push was done since whose number differs from its own by a multiple of 1,024: then
+    /// the journal is searched from its end, as long as pushes were done since.
     pub fn place(&self, push: u32) -> Option<usize>
         ensures { (first : RepositoryOf A) (h : History A) → HoldsHistory run_push first h self.now →
             TellsPlace run_push first h push result }
     {
-        last_place(self.journal.as_slice(), push)
+        place_of_push(self.journal.as_slice(), push, &self.places)
     }
 
     /// The numbers of the done pushes, in the order in which they were done.

@@ -6,8 +6,9 @@ ghost use Rattle.hg_push.specs.Run.{RepositoryOf, run_push};
 
 use crate::book::{Book, OpenFault};
 use crate::outcome::Outcome;
-use hg_repo::{Done, Refusal};
-use hg_types::{Item, NoMemory};
+use hg_parts::Item;
+use hg_repo::{Done, Refusal, Spent};
+use hg_types::NoMemory;
 use std::alloc::{Allocator, Global};
 
 /// A call of a book.
@@ -38,7 +39,7 @@ pub fn make_call<A: Allocator + Copy>(
 {
     match call {
         Call::Open => Answer::Opened(book.open()),
-        Call::Step(item) => Answer::Stepped(book.step(item)),
+        Call::Step(item) => Answer::Stepped(book.step(item, &mut Spent::new())),
         Call::TakeReply(push) => Answer::Reply(book.take_reply(push)),
     }
 }

@@ -8,11 +8,11 @@ ghost use Rattle.std.specs.Prelude.{Err, IsSome, IsTrue, count_by, length, ◌==
 ghost use Rattle.std.specs.Prelude.{if◌then◌else◌};
 ghost use Rattle.std.specs.List.{AllByRecursion, range_with_len};
 ghost use mathlib.Core.List.{IsPrefix};
-ghost use Rattle.hg_types.specs.declared.item.CutReason.{CutReason};
-ghost use Rattle.hg_types.specs.declared.item.Item.{Item};
-ghost use Rattle.hg_types.specs.declared.item.Taken.{Taken as TakenItem};
-ghost use Rattle.hg_types.specs.declared.item.What.{What};
-ghost use Rattle.hg_types.specs.declared.item.What.TheVariants.{End, Cut};
+ghost use Rattle.hg_parts.specs.declared.item.CutReason.{CutReason};
+ghost use Rattle.hg_parts.specs.declared.item.Item.{Item};
+ghost use Rattle.hg_parts.specs.declared.item.Taken.{Taken as TakenItem};
+ghost use Rattle.hg_parts.specs.declared.item.What.{What};
+ghost use Rattle.hg_parts.specs.declared.item.What.TheVariants.{End, Cut};
 ghost use Rattle.hg_types.specs.declared.part.Part.{Part as AnyPart};
 ghost use Rattle.hg_push.specs.History.{History, IsClosing, IsHistory, decided, is_closed, is_mark};
 ghost use Rattle.hg_push.specs.History.{may_refuse, outcome, parts, serial, told};

@@ -1,7 +1,7 @@
 //! How a push ends, and what is known of its number.
 
+use hg_parts::CutReason;
 use hg_repo::{Done, Refusal};
-use hg_types::CutReason;
 
 /// Why a push was aborted.
 #[derive(Drop)]

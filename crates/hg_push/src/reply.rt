@@ -8,9 +8,10 @@ ghost use Rattle.hg_push.specs.Reply.{unsupported_part};
 
 use crate::outcome::{Outcome, Reason};
 use hg_keys::KeyCall;
+use hg_parts::CutReason;
 use hg_repo::{Done, Refusal};
 use hg_stream::write_bundle;
-use hg_types::{CutReason, NoMemory, Param, Part, Payload, Seq, Short};
+use hg_types::{NoMemory, Param, Part, Payload, Seq, Short};
 use std::alloc::Allocator;
 
 /// The most bytes that a header has for a parameter's value.

@@ -18,10 +18,12 @@ ghost use Rattle.hg_push.specs.code.Rows.{staged_in, standing_in};
 ghost use Rattle.hg_push.specs.Run.{RepositoryOf, run_push};
 ghost use Rattle.hg_push.specs.Reply.{CanBeSent, KeepsTellable};
 
+use crate::journal::Places;
 use crate::outcome::{Outcome, Reason, Standing};
 use crate::row::{Row, State};
-use hg_repo::{Done, Prepared, Refusal, Repo, Source, prepare};
-use hg_types::{BoxedPart, NoMemory, Pages, What};
+use hg_parts::{SentPart, What};
+use hg_repo::{Done, Prepared, Refusal, Repo, Source, Spent};
+use hg_types::{NoMemory, Pages};
 use std::alloc::Allocator;
 use std::collections::VecDeque;
 use std::mem;
@@ -114,34 +116,44 @@ pub fn outcome_of<D, E, A: Allocator>(row: Row<D, E, A>) -> Outcome<D, E>
     }
 }
 
-/// Runs the staged parts at an end mark with this index.
+/// Runs the staged parts at an end mark with this index. They are spent.
 #[tactic(auto, using(crate::proofs::Staging::staged_count, crate::proofs::Staging::can_be_sent))]
 pub fn end<A: Allocator + Copy>(
     repo: &mut Repo<A>,
     staged: Pages<Prepared<A>, A>,
     index: u32,
+    spent: &mut Spent<A>,
 ) -> Result<Done<A>, Reason<Refusal<A>>>
     ensures ends { (parts : List (AnyPart A)) → Stages staged parts →
         EndsAs run_push repo.old parts index result repo.new }
     ensures sent { IfOk result (λ done. CanBeSent done.replies) }
 {
     if index as usize != staged.len() {
+        spent.keep_staged(staged.into_items());
         return Err(Reason::WrongIndex);
     }
-    match repo.run_prepared(Source::Push, staged) {
+    match repo.run_prepared(Source::Push, staged, spent) {
         Ok(done) => Ok(done),
         Err(Refusal::NoMemory) => Err(Reason::NoMemory),
         Err(refusal) => Err(Reason::Refused(refusal)),
     }
 }
 
-/// Closes the row's push, which ended so.
+/// Closes the row's push, which ended so. What it had staged is spent.
 #[inline(never)]
-fn close<D: Drop, E: Drop, A: Allocator>(row: &mut Row<D, E, A>, outcome: Outcome<D, E>)
+fn close<D: Drop, E: Drop, A: Allocator + Copy>(
+    row: &mut Row<D, E, A>,
+    outcome: Outcome<D, E>,
+    spent: &mut Spent<A>,
+)
     ensures push { row.new.push ≡ row.old.push }
     ensures state { row.new.state ≡ State.Closed outcome }
 {
-    row.state = State::Closed(outcome);
+    if let State::Open(staged) = mem::replace(&mut row.state, State::Closed(outcome)) {
+        if staged.len() > 0 {
+            spent.keep_staged(staged.into_items());
+        }
+    }
 }
 
 /// Prepares a part and adds it to an open push, or aborts the push where memory is refused for either.
@@ -151,7 +163,8 @@ fn stage<A: Allocator + Copy>(
     alloc: A,
     row: &mut Row<Done<A>, Refusal<A>, A>,
     index: u32,
-    part: BoxedPart<A>,
+    part: SentPart<A>,
+    spent: &mut Spent<A>,
 ) -> bool
     requires { is_open row.old.state ≡ true }
     ensures steps { (old : Serial (RepositoryOf A)) → StepsRow run_push old row.old
@@ -161,10 +174,10 @@ fn stage<A: Allocator + Copy>(
         }) old row.new }
     ensures told { KeepsTellable row.new.state }
 {
-    match prepare(alloc, part) {
-        Ok(prepared) => add(row, prepared),
+    match part.prepared(alloc) {
+        Ok(prepared) => add(row, prepared, spent),
         Err(NoMemory) => {
-            close(row, Outcome::Aborted(Reason::NoMemory));
+            close(row, Outcome::Aborted(Reason::NoMemory), spent);
             true
         }
     }
@@ -172,7 +185,11 @@ fn stage<A: Allocator + Copy>(
 
 /// Adds a prepared part to an open push, or aborts the push where memory is refused.
 #[inline(always)]
-fn add<A: Allocator + Copy>(row: &mut Row<Done<A>, Refusal<A>, A>, prepared: Prepared<A>) -> bool
+fn add<A: Allocator + Copy>(
+    row: &mut Row<Done<A>, Refusal<A>, A>,
+    prepared: Prepared<A>,
+    spent: &mut Spent<A>,
+) -> bool
     requires { is_open row.old.state ≡ true }
     ensures push { row.new.push ≡ row.old.push }
     ensures ok { OnFalse result (row.new.state ≡ State.Open (staged_in row.old.state ++ prepared ∷ [])) }
@@ -184,7 +201,7 @@ fn add<A: Allocator + Copy>(row: &mut Row<Done<A>, Refusal<A>, A>, prepared: Pre
         State::Closed(_) => unreachable!(),
     };
     if refused {
-        close(row, Outcome::Aborted(Reason::NoMemory));
+        close(row, Outcome::Aborted(Reason::NoMemory), spent);
     }
     refused
 }
@@ -217,8 +234,10 @@ fn is_no_memory<A: Allocator>(reason: &Reason<Refusal<A>>) -> bool
 fn finish<A: Allocator + Copy>(
     repo: &mut Repo<A>,
     journal: &mut Vec<u32, A>,
+    places: &mut Places,
     row: &mut Row<Done<A>, Refusal<A>, A>,
     index: u32,
+    spent: &mut Spent<A>,
 ) -> bool
     requires is_open { is_open row.old.state ≡ true }
     requires room { vec_len journal.old < vec_capacity journal.old }
@@ -231,30 +250,33 @@ fn finish<A: Allocator + Copy>(
     ensures capacity { vec_capacity journal.new ≡ vec_capacity journal.old }
 {
     let staged = take_staged(*journal.allocator(), row);
-    let ended = end(repo, staged, index);
+    let ended = end(repo, staged, index, spent);
     match ended {
         Ok(done) => {
+            places.keep(row.push, journal.len());
             journal.push_reserved(row.push);
-            close(row, Outcome::Done(done));
+            close(row, Outcome::Done(done), spent);
             false
         }
         Err(reason) => {
             let refused = is_no_memory(&reason);
-            close(row, Outcome::Aborted(reason));
+            close(row, Outcome::Aborted(reason), spent);
             refused
         }
     }
 }
 
-/// Takes an item of an open push, and says whether memory was refused.
+/// Takes an item of an open push, and says whether memory was refused. What is left over is spent.
 #[inline(always)]
 #[tactic(auto, using(crate::proofs::Staging::push_cut))]
 pub fn step_row<A: Allocator + Copy>(
     repo: &mut Repo<A>,
     journal: &mut Vec<u32, A>,
+    places: &mut Places,
     row: &mut Row<Done<A>, Refusal<A>, A>,
     index: u32,
     what: What<A>,
+    spent: &mut Spent<A>,
 ) -> bool
     requires is_open { is_open row.old.state ≡ true }
     requires room { vec_len journal.old < vec_capacity journal.old }
@@ -266,11 +288,11 @@ pub fn step_row<A: Allocator + Copy>(
     ensures capacity { vec_capacity journal.new ≡ vec_capacity journal.old }
 {
     match what {
-        What::Part(part) => stage(*journal.allocator(), row, index, part),
+        What::Part(part) => stage(*journal.allocator(), row, index, part, spent),
         What::Cut(reason) => {
-            close(row, Outcome::Aborted(Reason::Cut(reason)));
+            close(row, Outcome::Aborted(Reason::Cut(reason)), spent);
             false
         }
-        What::End => finish(repo, journal, row, index),
+        What::End => finish(repo, journal, places, row, index, spent),
     }
 }

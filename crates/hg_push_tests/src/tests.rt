@@ -1,6 +1,7 @@
 //! Worked examples of the book and of replies.
 
 mod book;
+mod left;
 mod many;
 mod memory;
 mod prepared;
@@ -9,9 +10,10 @@ mod replies;
 ghost use Rattle.std.specs.Prelude.{◌≤◌};
 
 use hg_help_tests::parts::{part_of, settings};
+use hg_parts::{CutReason, Item, SentPart, What};
 use hg_push::{Book, Outcome, Reason};
-use hg_repo::{Done, Refusal, Repo};
-use hg_types::{BoxedPart, CutReason, Item, NoMemory, Param, Payload, Seq, Short, What};
+use hg_repo::{Done, Refusal, Repo, Spent};
+use hg_types::{BoxedPart, NoMemory, Param, Payload, Seq, Short};
 use std::alloc::Allocator;
 use std::hash::RandomState;
 
@@ -66,7 +68,7 @@ fn a_part<A: Allocator>(push: u32, index: u32, part: BoxedPart<A>) -> Item<A> {
     Item {
         push,
         index,
-        what: What::Part(part),
+        what: What::Part(SentPart::as_it_came(part)),
     }
 }
 
@@ -86,23 +88,20 @@ fn put<A: Allocator + Copy>(
     part: Result<BoxedPart<A>, NoMemory>,
 ) -> bool {
     match part {
-        Ok(part) => !book.step(a_part(push, index, part)),
+        Ok(part) => !book.step(a_part(push, index, part), &mut Spent::new()),
         Err(NoMemory) => false,
     }
 }
 
 /// Puts an end mark. It is false where memory was refused.
 fn end<A: Allocator + Copy>(book: &mut Book<A>, push: u32, index: u32) -> bool {
-    !book.step(an_end(push, index))
+    !book.step(an_end(push, index), &mut Spent::new())
 }
 
 /// Puts a cut. It is false where memory was refused.
 fn cut<A: Allocator + Copy>(book: &mut Book<A>, push: u32, index: u32, reason: CutReason) -> bool {
-    !book.step(Item {
-        push,
-        index,
-        what: What::Cut(reason),
-    })
+    let what = What::Cut(reason);
+    !book.step(Item { push, index, what }, &mut Spent::new())
 }
 
 /// Whether the push is told as done with so many parts.

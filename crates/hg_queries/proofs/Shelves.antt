@@ -2,7 +2,7 @@
 use Rattle.std.proofs.Common.{◌≡◌, ℕ, List, ◌++◌, reverse, sym, subst, ap, ◌∙◌}
 use Rattle.std.proofs.lemmas.List.{reverse-append}
 use mathlib.Core.List.{IsPrefix}
-use Rattle.hg_types.specs.declared.item.Taken.{Taken}
+use Rattle.hg_parts.specs.declared.item.Taken.{Taken}
 use Rattle.hg_parts.specs.Repository.{Repository}
 use Rattle.hg_push.specs.History.{History, serial}
 use Rattle.hg_push.specs.Run.{RepositoryOf, run_push}

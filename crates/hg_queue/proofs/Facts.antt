@@ -3,7 +3,7 @@ use Rattle.std.proofs.Common.{◌≡◌, ℕ, ◌+◌, ◌<◌, Bool, true, fals
 use Rattle.std.proofs.Common.{Option, refl, sym, ap, ◌∙◌, subst, arith, append_assoc}
 use Rattle.std.specs.Prelude.{slice_get, option_to_list, MatchOption, IfSome}
 use mathlib.Core.List.{IsPrefix}
-use Rattle.hg_types.specs.declared.item.Item.{Item}
+use Rattle.hg_parts.specs.declared.item.Item.{Item}
 use Rattle.hg_queue.specs.declared.view.Claim.{Claim}
 use Rattle.hg_queue.specs.declared.view.TakerView.{TakerView}
 use Rattle.hg_queue.specs.declared.view.View.{View}

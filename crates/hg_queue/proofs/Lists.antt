@@ -9,8 +9,8 @@ use mathlib.Core.List.{IsPrefix}
 use native.Mathlib.Decide.{ℕ_discrete}
 use lib.ListN.{get_elem?}
 use Rattle.std.proofs.lemmas.List.Elements.{filter-append}
-use Rattle.hg_types.specs.declared.item.Item.{Item}
-use Rattle.hg_types.specs.declared.item.Taken.{Taken}
+use Rattle.hg_parts.specs.declared.item.Item.{Item}
+use Rattle.hg_parts.specs.declared.item.Taken.{Taken}
 use Rattle.hg_queue.specs.History.{is_part, of, items_of, has, AllParts, IsOrderly}
 use Rattle.hg_queue.specs.declared.seat.Mark.{Mark}
 use Rattle.hg_queue.specs.declared.seat.Mark.TheVariants.{End as an_end, Cut as a_cut}

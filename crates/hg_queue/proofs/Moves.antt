@@ -1,8 +1,8 @@
 -- The steps, at a view that is known by an equation.
 use Rattle.std.proofs.Common.{◌≡◌, ℕ, Bool, true, false, List, sym, subst}
 use Rattle.crossbeam_queue.specs.Fifo.{Pushes, Pops, Forks, Merges}
-use Rattle.hg_types.specs.declared.item.Item.{Item}
-use Rattle.hg_types.specs.declared.item.Taken.{Taken}
+use Rattle.hg_parts.specs.declared.item.Item.{Item}
+use Rattle.hg_parts.specs.declared.item.Taken.{Taken}
 use Rattle.hg_queue.specs.declared.view.Claim.{Claim}
 use Rattle.hg_queue.specs.declared.view.TakerView.{TakerView}
 use Rattle.hg_queue.specs.declared.view.PutterView.{PutterView}

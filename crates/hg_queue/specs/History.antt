@@ -1,10 +1,10 @@
 -- The items of pushes, and histories of them.
 use Rattle.std.specs.Prelude.{◌≡◌, ℕ, ◌+◌, ◌==◌, ◌||◌, Bool, true, false, List, [], ◌∷◌, map, filter}
 use Rattle.std.specs.Prelude.{MatchBool}
-use Rattle.hg_types.specs.declared.item.Item.{Item}
-use Rattle.hg_types.specs.declared.item.What.{What}
-use Rattle.hg_types.specs.declared.item.What.TheVariants.{Part as a_part, End, Cut}
-use Rattle.hg_types.specs.declared.item.Taken.{Taken}
+use Rattle.hg_parts.specs.declared.item.Item.{Item}
+use Rattle.hg_parts.specs.declared.item.What.{What}
+use Rattle.hg_parts.specs.declared.item.What.TheVariants.{Part as a_part, End, Cut}
+use Rattle.hg_parts.specs.declared.item.Taken.{Taken}
 
 module _ {A : Type 0} where
   -- a part, and no mark

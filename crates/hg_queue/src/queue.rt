@@ -6,8 +6,8 @@ ghost use Rattle.std.specs.Prelude.{IsOk, MatchResult, MatchOption, true, length
 ghost use mathlib.Core.List.{IsPrefix};
 ghost use Rattle.crossbeam_queue.specs.Fifo.{Held};
 ghost use Rattle.crossbeam_queue.specs.Passes.{view, IsPassOf, IsSamePass};
-ghost use Rattle.hg_types.specs.declared.item.Item.{Item};
-ghost use Rattle.hg_types.specs.declared.item.What.TheVariants.{Part as a_part};
+ghost use Rattle.hg_parts.specs.declared.item.Item.{Item};
+ghost use Rattle.hg_parts.specs.declared.item.What.TheVariants.{Part as a_part};
 ghost use Rattle.hg_queue.specs.declared.view.View.TheVariants.{AsTaker, AsPutter};
 ghost use Rattle.hg_queue.specs.History.{has};
 ghost use Rattle.hg_queue.specs.Rules.{Stands};
@@ -25,7 +25,8 @@ use crate::rule::{
 use crate::seat::{Full, Mark, Marked, Putter, Seat, Taker, Visitor};
 use crate::view::View;
 use crossbeam_queue::RuledArrayQueue;
-use hg_types::{BoxedPart, Item, NoMemory, What};
+use hg_parts::{Item, SentPart, What};
+use hg_types::NoMemory;
 use std::alloc::{Allocator, Global};
 use std::marker::Brand;
 use std::sync::Wait;
@@ -97,7 +98,7 @@ impl<A: Allocator> PartQueue<A> {
         &self,
         rt: &R,
         putter: &mut Putter<A>,
-        part: BoxedPart<A>,
+        part: SentPart<A>,
     ) -> Result<(), Full<A>>
         requires putter { IsPutterOf self.now putter.old }
         requires room { length (putter_view putter.old).put < 10000 }

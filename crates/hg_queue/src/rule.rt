@@ -3,7 +3,7 @@
 
 use crate::view::View;
 use crossbeam_queue::protocol::{Join, Lesson, Outcome, Protocol, Split};
-use hg_types::Item;
+use hg_parts::Item;
 use std::alloc::Allocator;
 use std::marker::{Brand, PhantomData};
 

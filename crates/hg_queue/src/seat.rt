@@ -8,7 +8,7 @@ ghost use Rattle.hg_queue.specs.Words.{taker_view, putter_view, history, IsTaker
 
 use crate::view::View;
 use crossbeam_queue::Pass;
-use hg_types::{BoxedPart, CutReason, Item, What};
+use hg_parts::{CutReason, Item, SentPart, What};
 use std::alloc::{Allocator, Global};
 use std::fmt;
 use thiserror::Error;
@@ -44,7 +44,7 @@ pub struct Visitor<A: Allocator = Global> {
 /// A part that was not put, since the queue was full at one moment of the call.
 #[derive(Drop, Error)]
 #[error("the queue is full")]
-pub struct Full<A: Allocator = Global>(pub BoxedPart<A>);
+pub struct Full<A: Allocator = Global>(pub SentPart<A>);
 
 impl<A: Allocator> fmt::Debug for Full<A> {
     fn fmt<W: fmt::Write>(&self, f: &mut fmt::Formatter<W>) -> fmt::Result {

@@ -1,7 +1,7 @@
 //! What each seat of the queue knows. These are values of contracts alone: none is made when the program
 //! runs. A history is a list of `Taken`, in the order in which they were taken.
 
-use hg_types::{Item, Taken};
+use hg_parts::{Item, Taken};
 use std::alloc::{Allocator, Global};
 use std::collections::LinkedList;
 

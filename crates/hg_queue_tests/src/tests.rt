@@ -1,13 +1,14 @@
 //! What no contract says: the worked examples, and threads that run at the same time.
 
 ghost use Rattle.std.specs.Prelude.{◌≡◌, ◌<◌, ◌≤◌, ◌++◌, ◌∷◌, [], IsTrue, true, false};
-ghost use Rattle.hg_types.specs.declared.item.Item.{Item};
+ghost use Rattle.hg_parts.specs.declared.item.Item.{Item};
 ghost use Rattle.hg_queue.specs.History.{has};
 ghost use Rattle.hg_queue.specs.Words.{putter_view, taker_view, history, seen, taken};
 ghost use Rattle.hg_queue.specs.Words.{IsTakerOf, IsPutterOf, IsMarkedOf, IsVisitorOf};
 
+use hg_parts::{CutReason, Item, SentPart, What};
 use hg_queue::{Full, Mark, Marked, PartQueue, Putter, Taker, Visitor};
-use hg_types::{BoxedPart, CutReason, Item, NoMemory, Part, Payload, Seq, Short, What};
+use hg_types::{BoxedPart, NoMemory, Part, Payload, Seq, Short};
 use linked_list_allocator::LocalHeap;
 use std::alloc::{Allocator, Global};
 use std::sync::Wait;
@@ -19,14 +20,22 @@ use std::thread::{Threads, join_mut};
 const PARTS: u32 = 500;
 
 // A part of that id, which takes no memory but its block.
-fn part<A: Allocator + Copy>(alloc: A, id: u32) -> Result<BoxedPart<A>, NoMemory> {
+fn part<A: Allocator + Copy>(alloc: A, id: u32) -> Result<SentPart<A>, NoMemory> {
     let part = Part {
         kind: Short::new(alloc),
         id,
         params: Seq::new(alloc),
         payload: Payload::new(alloc),
     };
-    BoxedPart::new(alloc, part)
+    Ok(SentPart::as_it_came(BoxedPart::new(alloc, part)?))
+}
+
+// The id of a part that is as it came.
+fn id_of<A: Allocator>(part: &SentPart<A>) -> u32 {
+    match part.whole() {
+        Some(part) => part.id,
+        None => u32::MAX,
+    }
 }
 
 // Puts a push's parts, each with its index as its id.
@@ -94,7 +103,7 @@ impl Due {
             self.second
         };
         let is_due = match &item.what {
-            What::Part(part) => part.as_part().id == due && item.index == due,
+            What::Part(part) => id_of(part) == due && item.index == due,
             _ => false,
         };
         if item.push > 1 || !is_due {
@@ -191,7 +200,7 @@ enum Kind {
 
 fn kind_of<A: Allocator>(what: &What<A>) -> Kind {
     match what {
-        What::Part(part) => Kind::Part(part.as_part().id),
+        What::Part(part) => Kind::Part(id_of(part)),
         What::End => Kind::End,
         What::Cut(reason) => Kind::Cut(*reason),
     }
@@ -225,7 +234,7 @@ fn queue_of_two(rt: HostRuntime) -> Result<(), Fail> {
     end(&rt, &queue, &mut taker, first, Mark::End);
     match queue.try_put(&rt, &mut second, eight) {
         Ok(()) => panic!(rt; "the queue was full"),
-        Err(Full(back)) => assert_eq!(rt; back.as_part().id, 8),
+        Err(Full(back)) => assert_eq!(rt; id_of(&back), 8),
     }
     assert_eq!(rt; (second.push(), second.parts()), (1, 0));
     assert_eq!(rt;

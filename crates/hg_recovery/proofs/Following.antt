@@ -1,6 +1,6 @@
 -- A store that is followed, and then taken over.
 use Rattle.std.proofs.Common.{◌≡◌, ◌⊎◌, ◌∙◌, ℕ, Bool, List, [], ◌∷◌, ◌++◌, ap, append-nil, append_assoc, inl, inr}
-use Rattle.std.proofs.Common.{arith, false, refl, subst, sym, true}
+use Rattle.std.proofs.Common.{arith, false, subst, sym, true}
 use Rattle.hg_types.specs.Limits.{IsAllowed, standard_limits}
 use Rattle.hg_types.specs.declared.limits.Limits.{Limits}
 use Rattle.hg_types.specs.declared.limits.Settings.{Settings}

@@ -4,6 +4,7 @@ use Rattle.std.proofs.Common.{◌⊎◌, inl, inr}
 use Rattle.std.proofs.Common.{ap, append-nil, append_assoc, arith, drop, length, length-append, length-drop, refl}
 use Rattle.std.proofs.Common.{subst, sym, take, take-append-drop, ◌∙◌}
 use Rattle.std.proofs.lemmas.List.{take_at}
+use Rattle.std.proofs.Math.Seq.{take-append_seam}
 use Rattle.hg_types.specs.declared.part.Part.{Part}
 use Rattle.hg_stream.specs.declared.fault.StreamFault.{StreamFault}
 use Rattle.hg_stream.specs.declared.fault.StreamFault.TheVariants.{NoMemory, Truncated}
@@ -202,3 +203,10 @@ module _ {A : Type 0} (u v : Unbundler A) (same : limits_of v ≡ limits_of u) (
     fault_taken fault failed place told memory other =
         told_lem u v verdict same bytes (length taken.front) holds_front fault failed
         (λ cut. taken.own (failed ∙ ap Failed cut)) place told memory other
+
+-- a vector whose items were written over by the same ones
+pub filled : {X : Type 0} (len : ℕ) (new items : List X) → new ≡ items → len ≡ length items
+    → take len (new ++ drop (length new) items) ≡ items
+filled {X} len new items same long =
+    ap (λ (n : ℕ). take n (new ++ drop (length new) items)) (long ∙ ap length (sym same))
+    ∙ take-append_seam new (drop (length new) items) ∙ same

@@ -9,6 +9,7 @@ ghost use Rattle.hg_recovery.specs.Taking.{Took};
 ghost use Rattle.hg_recovery.specs.declared.record.RecordIn.{RecordIn as AnyRecord};
 
 use crate::restore::RestoreFault;
+use hg_parts::hash_several_of_each;
 use hg_store::BundleTaker;
 use hg_stream::laws::streams_have_one_verdict;
 use hg_stream::{State, StreamFault, Unbundler, all_parts};
@@ -55,7 +56,11 @@ impl<A: Allocator + Copy> RecordIn<A> {
             return Err(RestoreFault::NoBundle(place));
         }
         match self.bundle.state() {
-            State::Ended => Ok(all_parts(alloc, &mut self.bundle)?),
+            State::Ended => {
+                let mut parts = all_parts(alloc, &mut self.bundle)?;
+                hash_several_of_each(&mut parts);
+                Ok(parts)
+            }
             State::Reading => Err(RestoreFault::NoBundle(place)),
             State::Failed(fault) => Err(stream_fault(place, fault)),
         }

@@ -6,8 +6,8 @@ use Rattle.hg_push.specs.declared.row.State.TheVariants.{Open}
 use Rattle.std.proofs.lemmas.Bool.Decides.{nat_tests}
 use Rattle.std.proofs.lemmas.List.{append-nil, length-append}
 use Rattle.hg_types.specs.declared.part.Part.{Part}
-use Rattle.hg_types.specs.declared.item.Item.{Item}
-use Rattle.hg_types.specs.declared.item.What.TheVariants.{Part as a_part}
+use Rattle.hg_parts.specs.declared.item.Item.{Item}
+use Rattle.hg_parts.specs.declared.item.What.TheVariants.{Part as a_part}
 use Rattle.hg_repo.specs.declared.done.Done.{Done}
 use Rattle.hg_parts.specs.declared.refusal.Refusal.{Refusal}
 use Rattle.hg_push.specs.declared.outcome.Outcome.{Outcome}
@@ -19,8 +19,8 @@ use Rattle.hg_push.specs.Rows.{row_of, rows_without}
 use Rattle.hg_push.specs.Run.{BookOf, RepositoryOf, run_push}
 use Rattle.hg_connection.specs.declared.bundle_end.BundleEnd.{BundleEnd}
 use Rattle.hg_connection.specs.declared.bundle_end.BundleEnd.TheVariants.{Whole, Fault, InputEnded, ReadFailed}
-use Rattle.hg_types.specs.declared.item.What.{What}
-use Rattle.hg_types.specs.declared.item.Taken.{Taken}
+use Rattle.hg_parts.specs.declared.item.What.{What}
+use Rattle.hg_parts.specs.declared.item.Taken.{Taken}
 use Rattle.hg_connection.specs.Receiving.{mark_of, part_items, push_items}
 use Rattle.hg_connection.proofs.ReceivingLemmas.{items_more}
 use Rattle.hg_replay.specs.Taking.{HasTaken, IsIdle, PushLeaves}

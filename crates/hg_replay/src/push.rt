@@ -9,12 +9,13 @@ ghost use Rattle.hg_replay.specs.Taking.{HasTaken, IsIdle, PushLeaves, PushTakes
 
 use crate::receiving::receive;
 use hg_connection::{BundleEnd, Reader, cut_of};
+use hg_parts::{Item, SentPart, What, hash_several};
 use hg_push::laws::closed_pushes_have_ended;
 use hg_push::{Book, Outcome};
-use hg_repo::{Done, Refusal};
+use hg_repo::{Done, Refusal, Spent};
 use hg_stream::Unbundler;
 use hg_stream::laws::parts_are_few;
-use hg_types::{Item, Limits, What};
+use hg_types::Limits;
 use std::alloc::Allocator;
 
 /// Opens a push, receives its bundle, runs it on the repository of the book, and says why no more was read of
@@ -55,9 +56,10 @@ fn end_push<A: Allocator + Copy>(
     ensures leaves { (first : RepositoryOf A) (before : History A) → HasTaken first before push book.old []
         → PushLeaves first before push (push_items push (ready_of bundle.old) (mark_of ending)) result book.new }
 {
-    let index = step_parts(book, push, bundle);
+    let mut spent = Spent::new();
+    let index = step_parts(book, push, bundle, &mut spent);
     let what = mark_of(ending);
-    book.step(Item { push, index, what });
+    book.step(Item { push, index, what }, &mut spent);
     // the mark closed the push, so there is an outcome
     closed_pushes_have_ended::<A>();
     match book.take_reply(push) {
@@ -77,7 +79,12 @@ fn mark_of<A: Allocator>(ending: BundleEnd) -> What<A>
 }
 
 /// Gives the book the parts that the bundle has finished, and says how many.
-fn step_parts<A: Allocator + Copy>(book: &mut Book<A>, push: u32, bundle: &mut Unbundler<A>) -> u32
+fn step_parts<A: Allocator + Copy>(
+    book: &mut Book<A>,
+    push: u32,
+    bundle: &mut Unbundler<A>,
+    spent: &mut Spent<A>,
+) -> u32
     requires few { length (ready_of bundle.old) < 2 ^ 32 }
     ensures count { result ≡ length (ready_of bundle.old) }
     ensures next { book.new.next ≡ book.old.next }
@@ -86,8 +93,8 @@ fn step_parts<A: Allocator + Copy>(book: &mut Book<A>, push: u32, bundle: &mut U
 {
     let mut index = 0;
     while let Some(part) = bundle.next_part() {
-        let what = What::Part(part);
-        book.step(Item { push, index, what });
+        let what = What::Part(SentPart::as_it_came(hash_several(part)));
+        book.step(Item { push, index, what }, spent);
         index += 1;
     }
     index

@@ -15,6 +15,6 @@ mod run;
 mod same;
 
 pub use done::Done;
-pub use hg_parts::{Prepared, RaceText, Refusal, Source, prepare};
+pub use hg_parts::{Prepared, RaceText, Refusal, Source, Spent, prepare};
 pub use repo::Repo;
 pub use report::{add_journal_line, add_journal_lines};

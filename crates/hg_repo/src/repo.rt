@@ -24,7 +24,7 @@ use hg_keys::phase_of_node;
 use hg_log::Changelog;
 use hg_obs::{Marker, Markers};
 use hg_parts::laws::sound_stores_are_lawful;
-use hg_parts::{Prepared, Refusal, Source, Store};
+use hg_parts::{Prepared, Refusal, Source, Spent, Store};
 use hg_types::{NoMemory, Node, Pages, Part, Phase, Seq, Settings, TryClone};
 use std::alloc::{Allocator, Global};
 use std::hash::RandomState;
@@ -192,11 +192,12 @@ impl<A: Allocator + Copy> Repo<A> {
     /// Runs parts that were prepared, in order: the run of every list of parts that they may have been made
     /// of, with the first refusal in their order, also where an earlier reading found a fault in a later
     /// part. `NoMemory` stands in place of that answer where a growth was refused. Nothing is changed where
-    /// the answer is a refusal.
+    /// the answer is a refusal. What is left over of the parts that were handled is spent.
     pub fn run_prepared(
         &mut self,
         source: Source,
         prepared: Pages<Prepared<A>, A>,
+        spent: &mut Spent<A>,
     ) -> Result<Done<A>, Refusal<A>>
         requires { length prepared < 2 ^ 32 }
         ensures gives { (parts : List (AnyPart A)) → AreMadeOf parts prepared →
@@ -212,6 +213,7 @@ impl<A: Allocator + Copy> Repo<A> {
             &self.settings,
             source,
             prepared,
+            spent,
         ) {
             Ok(done) => Ok(done),
             Err(refusal) => {

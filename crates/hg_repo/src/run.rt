@@ -10,7 +10,7 @@ ghost use Rattle.hg_repo.specs.Replies.{AreReplies};
 
 use crate::done::Done;
 use hg_parts::{
-    Prepared, Refusal, Source, Store, Turn, handle_part, handle_prepared, starts_replies,
+    Prepared, Refusal, Source, Spent, Store, Turn, handle_part, handle_prepared, starts_replies,
 };
 use hg_types::{NoMemory, Pages, Part, Seq, Settings};
 use std::alloc::Allocator;
@@ -53,13 +53,15 @@ pub fn run_parts<A: Allocator + Copy>(
     })
 }
 
-/// Runs parts that were prepared, as [`run_parts`] runs each list of parts that they may have been made of.
+/// Runs parts that were prepared, as [`run_parts`] runs each list of parts that they may have been made of. What
+/// is left over of those that were handled is spent.
 pub fn run_prepared<A: Allocator + Copy>(
     alloc: A,
     store: &mut Store<A>,
     settings: &Settings,
     source: Source,
     prepared: Pages<Prepared<A>, A>,
+    spent: &mut Spent<A>,
 ) -> Result<Done<A>, Refusal<A>>
     requires sound { IsSound settings.now store.old }
     requires few { length prepared < 2 ^ 32 }
@@ -83,12 +85,13 @@ pub fn run_prepared<A: Allocator + Copy>(
             replying,
             place,
         };
-        let reply = handle_prepared(alloc, store, turn, part)?;
+        let reply = handle_prepared(alloc, store, turn, part, spent)?;
         keep_reply(&mut replies, reply)?;
         handled.push_reserved(place);
         replying = replying || starts;
         place += 1;
     }
+    spent.keep_staged(left);
     Ok(Done {
         replies,
         handled: Seq::from_vec(handled),

@@ -2,8 +2,8 @@
 use Rattle.std.specs.Prelude.{◌≡◌, ℕ, ◌≤◌, ◌<◌, List, length, Some}
 use Rattle.std.specs.List.{range_with_len}
 use mathlib.Core.List.{IsPrefix}
-use Rattle.hg_types.specs.declared.item.Item.{Item}
-use Rattle.hg_types.specs.declared.item.Taken.{Taken}
+use Rattle.hg_parts.specs.declared.item.Item.{Item}
+use Rattle.hg_parts.specs.declared.item.Taken.{Taken}
 use Rattle.hg_repo.specs.declared.done.Done.{Done}
 use Rattle.hg_parts.specs.declared.refusal.Refusal.{Refusal}
 use Rattle.hg_queue.specs.History.{of, items_of}

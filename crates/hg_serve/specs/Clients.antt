@@ -1,10 +1,10 @@
 -- What contracts see of a connection's values, and what a put and a mark make of them.
 use Rattle.std.specs.Prelude.{◌≡◌, ℕ, ◌≤◌, ◌+◌, List, [], ◌∷◌, ◌++◌, length, Result, Ok, Err, ⊤}
 use Rattle.crossbeam_queue.specs.Fifo.{Held}
-use Rattle.hg_types.specs.declared.item.Item.{Item}
-use Rattle.hg_types.specs.declared.item.Taken.{Taken}
-use Rattle.hg_types.specs.declared.item.What.{What}
-use Rattle.hg_types.specs.declared.item.What.TheVariants.{Part as a_part}
+use Rattle.hg_parts.specs.declared.item.Item.{Item}
+use Rattle.hg_parts.specs.declared.item.Taken.{Taken}
+use Rattle.hg_parts.specs.declared.item.What.{What}
+use Rattle.hg_parts.specs.declared.item.What.TheVariants.{Part as a_part}
 use Rattle.hg_types.specs.declared.part.Part.{Part}
 use Rattle.hg_queue.specs.declared.view.PutterView.{PutterView}
 use Rattle.hg_queue.specs.declared.view.View.TheVariants.{AsPutter}

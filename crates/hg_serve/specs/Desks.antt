@@ -2,8 +2,8 @@
 use Rattle.std.specs.Prelude.{◌≡◌, ℕ, ◌≤◌, ◌<◌, ◌+◌, ◌-◌, ◌^◌, ◌++◌, ◌∷◌, true, false, List, [], map, length}
 use Rattle.std.specs.Prelude.{option_to_list, Option, Some, None}
 use Rattle.atomic_table.specs.Seated.{TableId}
-use Rattle.hg_types.specs.declared.item.Item.{Item}
-use Rattle.hg_types.specs.declared.item.Taken.{Taken}
+use Rattle.hg_parts.specs.declared.item.Item.{Item}
+use Rattle.hg_parts.specs.declared.item.Taken.{Taken}
 use Rattle.hg_types.specs.Limits.{IsAllowed}
 use Rattle.hg_queue.specs.declared.queue.PartQueue.{PartQueue}
 use Rattle.hg_queue.specs.declared.seat.Taker.{Taker}

@@ -16,7 +16,7 @@ pub struct Client<J: Naming<A>, A: Allocator = Global> {
 
 impl<J: Naming<A>, A: Allocator> Model for Client<J, A> {
     ghost use Rattle.std.specs.Prelude.{List};
-    ghost use Rattle.hg_types.specs.declared.item.Taken.{Taken};
+    ghost use Rattle.hg_parts.specs.declared.item.Taken.{Taken};
     ghost use Rattle.hg_queue.specs.Words.{seen, IsVisitorIn};
 
     ghost Value = { List (Taken A) };

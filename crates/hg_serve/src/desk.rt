@@ -4,7 +4,7 @@ ghost use Rattle.std.specs.Prelude.{◌≡◌, ◌<◌, ◌≤◌, ◌+◌, ◌+
 ghost use Rattle.std.specs.Prelude.{IfErr, IsOk, IsErrOf, MatchBool, ◌↔◌, is_none, All};
 ghost use mathlib.Core.List.{IsPrefix};
 ghost use Rattle.crossbeam_queue.specs.Fifo.{Held};
-ghost use Rattle.hg_types.specs.declared.item.Taken.{Taken};
+ghost use Rattle.hg_parts.specs.declared.item.Taken.{Taken};
 ghost use Rattle.hg_queue.specs.declared.view.View.TheVariants.{AsTaker};
 ghost use Rattle.hg_queue.specs.History.{has, of, items_of};
 ghost use Rattle.hg_queue.specs.Rules.{Stands};
@@ -29,7 +29,7 @@ use crate::question::Question;
 use hg_push::laws::{closed_pushes_have_ended, done_had_all_of_its_list};
 use hg_push::{Book, OpenFault, Outcome, Standing};
 use hg_queue::{Marked, PartQueue, Putter, Taker, Visitor};
-use hg_repo::{Done, Refusal, Repo};
+use hg_repo::{Done, Refusal, Repo, Spent};
 use hg_types::NoMemory;
 use std::alloc::{Allocator, Global};
 use std::marker::{Model, PhantomData};
@@ -159,8 +159,8 @@ impl<J: Naming<A>, A: Allocator + Copy> Desk<J, A> {
     }
 
     /// Takes one item, steps, and keeps whether memory was refused. It is false only where the queue was
-    /// empty at one moment of the call.
-    pub fn turn<R: Wait>(&mut self, rt: &R, queue: &PartQueue<A>) -> bool
+    /// empty at one moment of the call. What is left over is spent.
+    pub fn turn<R: Wait>(&mut self, rt: &R, queue: &PartQueue<A>, spent: &mut Spent<A>) -> bool
         requires queue { IsQueueIn J.table J.capacity queue.now }
         ensures turned { MatchBool result
             ((e : Taken A) × (self.new.history ≡ self.old.history ++ e ∷ []))
@@ -171,7 +171,7 @@ impl<J: Naming<A>, A: Allocator + Copy> Desk<J, A> {
     {
         match queue.take(rt, &mut self.taker) {
             Some(item) => {
-                let refused = self.book.step(item);
+                let refused = self.book.step(item, spent);
                 self.taker.tell(refused);
                 true
             }
@@ -216,6 +216,7 @@ impl<J: Naming<A>, A: Allocator + Copy> Desk<J, A> {
         rt: &R,
         queue: &PartQueue<A>,
         push: u32,
+        spent: &mut Spent<A>,
         probe: &mut G,
     ) -> u32
         requires queue { IsQueueIn J.table J.capacity queue.now × (J.capacity ≤ 65536) }
@@ -234,7 +235,7 @@ impl<J: Naming<A>, A: Allocator + Copy> Desk<J, A> {
         let mut takes = 0;
         'closing: while self.is_open(push) {
             probe.at(Point::Locked);
-            if !self.turn(rt, queue) {
+            if !self.turn(rt, queue, spent) {
                 unreachable!();
             }
             takes += 1;
@@ -276,6 +277,7 @@ impl<J: Naming<A>, A: Allocator + Copy> Desk<J, A> {
         rt: &R,
         queue: &PartQueue<A>,
         ended: Awaiting<J, A>,
+        spent: &mut Spent<A>,
         probe: &mut G,
     ) -> (Answer<A>, Client<J, A>)
         requires queue { IsQueueIn J.table J.capacity queue.now × (J.capacity ≤ 65536) }
@@ -293,7 +295,7 @@ impl<J: Naming<A>, A: Allocator + Copy> Desk<J, A> {
         closed_pushes_have_ended::<A>();
         done_had_all_of_its_list::<A>();
         self.begin(queue, marked, &mut visitor);
-        let takes = self.finish(rt, queue, push, probe);
+        let takes = self.finish(rt, queue, push, spent, probe);
         let outcome = self.reply(push);
         self.show(queue, &mut visitor);
         let client = Client {

@@ -3,7 +3,7 @@
 //! A [`Server`] is shared by reference. Each connection has one value in turn: a [`Client`] between pushes, a
 //! [`Sender`] while its push is open, and an [`Awaiting`] once its mark was put. Parts are put without the lock.
 //! What was put is taken under it, by whoever waits for an answer or finds the queue full. Under the lock
-//! stands a [`Desk`]: the book, and the taker whose history the book holds. No part is read, no reply is
+//! stands a [`Desk`]: the book, and the taker whose history the book holds. No bundle is read, no reply is
 //! written and nothing is put while the lock is held. A [`Question`] is asked of the repository under it.
 #![tactic(auto)]
 

@@ -3,7 +3,7 @@
 ghost use Rattle.std.specs.Prelude.{◌≡◌, ◌≤◌, [], IfOk, IfErr, IsOk, MatchResult, All, length};
 ghost use mathlib.Core.List.{IsPrefix};
 ghost use Rattle.hg_types.specs.Limits.{IsAllowed};
-ghost use Rattle.hg_types.specs.declared.item.What.TheVariants.{Part as a_part, End, Cut};
+ghost use Rattle.hg_parts.specs.declared.item.What.TheVariants.{Part as a_part, End, Cut};
 ghost use Rattle.hg_queue.specs.History.{of, items_of};
 ghost use Rattle.hg_queue.specs.Seats.{putter};
 ghost use Rattle.hg_queue.specs.Words.{history, what_of, IsTakerIn};
@@ -20,10 +20,11 @@ use crate::desk::{Answer, Closed, Desk};
 use crate::naming::Naming;
 use crate::pauses::Pauses;
 use crate::probe::{Point, Probe};
+use hg_parts::{CutReason, SentPart};
 use hg_push::OpenFault;
 use hg_queue::{Full, Mark, PartQueue, Taker};
-use hg_repo::Repo;
-use hg_types::{BoxedPart, CutReason, Limits, NoMemory};
+use hg_repo::{Repo, Spent};
+use hg_types::{Limits, NoMemory};
 use std::alloc::{Allocator, Global};
 use std::fmt;
 use std::marker::{Model, PhantomData};
@@ -41,10 +42,10 @@ const LOOKS: u32 = 8;
 pub enum PutFault<A: Allocator = Global> {
     /// 1: its push has 10,000 parts.
     #[error("the push has 10,000 parts")]
-    TooMany(BoxedPart<A>),
+    TooMany(SentPart<A>),
     /// 2: the queue was full at one moment of the call.
     #[error("the queue is full")]
-    Full(BoxedPart<A>),
+    Full(SentPart<A>),
 }
 
 impl<A: Allocator> fmt::Debug for PutFault<A> {
@@ -177,7 +178,7 @@ impl<J: Naming<A>, A: Allocator + Copy> Server<J, A> {
         &self,
         rt: &R,
         sender: &mut Sender<J, A>,
-        part: BoxedPart<A>,
+        part: SentPart<A>,
     ) -> Result<(), PutFault<A>>
         ensures { TriesPut J.capacity sender.old part result sender.new }
     {
@@ -196,9 +197,9 @@ impl<J: Naming<A>, A: Allocator + Copy> Server<J, A> {
         &self,
         rt: &R,
         sender: &mut Sender<J, A>,
-        part: BoxedPart<A>,
+        part: SentPart<A>,
         probe: &mut G,
-    ) -> Result<(), BoxedPart<A>>
+    ) -> Result<(), SentPart<A>>
         ensures { MatchResult result
             (λ _. PutsNext sender.old (a_part part) sender.new)
             (λ back. (back ≡ part) × GoesOn sender.old sender.new sender.old.putter.put
@@ -284,7 +285,8 @@ impl<J: Naming<A>, A: Allocator + Copy> Server<J, A> {
     }
 
     /// Takes until the push is closed, and says how it ended. Its client has then seen the whole history,
-    /// by which the push ended so. The lock is held for the takes, and for nothing else.
+    /// by which the push ended so. The lock is held for the takes, and for nothing else: what they leave over is
+    /// dropped behind it.
     pub fn answer<R: Wait, G: Probe>(
         &self,
         rt: &R,
@@ -294,9 +296,10 @@ impl<J: Naming<A>, A: Allocator + Copy> Server<J, A> {
         ensures { Answers J.capacity J.first ended.push ended.put ended.history
             result.0.outcome result.0.takes result.1 }
     {
+        let mut spent = Spent::new();
         let answered = self
             .lock(rt, &mut ended.pauses)
-            .answer(rt, &self.queue, ended, probe);
+            .answer(rt, &self.queue, ended, &mut spent, probe);
         probe.at(Point::Answered);
         answered
     }
@@ -306,11 +309,12 @@ impl<J: Naming<A>, A: Allocator + Copy> Server<J, A> {
         self.turn_for(rt, &mut Pauses::none(), probe)
     }
 
-    /// The same, for a connection that has learned so many pauses.
+    /// The same, for a connection that has learned so many pauses. What is left over is dropped behind the lock.
     fn turn_for<R: Wait, G: Probe>(&self, rt: &R, pauses: &mut Pauses, probe: &mut G) -> bool {
+        let mut spent = Spent::new();
         let mut desk = self.lock(rt, pauses);
         probe.at(Point::Locked);
-        desk.turn(rt, &self.queue)
+        desk.turn(rt, &self.queue, &mut spent)
     }
 
     /// The repository and the journal of the whole history, which is one that could have happened and goes on

@@ -16,11 +16,12 @@ mod race;
 mod threads;
 
 use hg_help_tests::parts::{part_of, settings};
+use hg_parts::{CutReason, SentPart};
 use hg_push::{OpenFault, Outcome, Reason};
 use hg_queue::{PartQueue, Taker};
 use hg_repo::{Refusal, Repo, Source};
 use hg_serve::{Answer, Client, Closed, Naming, NoProbe, Point, Probe, PutFault, Sender, Server};
-use hg_types::{BoxedPart, CutReason, NoMemory, Seq, Settings};
+use hg_types::{BoxedPart, NoMemory, Seq, Settings};
 use std::alloc::{AllocFailed, Allocator, Global};
 use std::hash::RandomState;
 use std::marker::Brand;
@@ -49,13 +50,23 @@ fn try_part<A: Allocator + Copy>(
     BoxedPart::new(alloc, part_of(alloc, kind, 0, payload)?)
 }
 
-fn part<A: Allocator + Copy, R: Abort>(
+fn boxed<A: Allocator + Copy, R: Abort>(
     rt: &R,
     alloc: A,
     kind: &[u8],
     payload: &[u8],
 ) -> BoxedPart<A> {
     made(rt, try_part(alloc, kind, payload))
+}
+
+/// The same, to be put as it came.
+fn part<A: Allocator + Copy, R: Abort>(
+    rt: &R,
+    alloc: A,
+    kind: &[u8],
+    payload: &[u8],
+) -> SentPart<A> {
+    SentPart::as_it_came(boxed(rt, alloc, kind, payload))
 }
 
 fn client<J: Naming<A>, A: Allocator + Copy, R: Wait + Abort>(
@@ -83,7 +94,7 @@ fn put<J: Naming<A>, A: Allocator + Copy, R: Wait + Abort>(
     rt: &R,
     server: &Server<J, A>,
     sender: &mut Sender<J, A>,
-    part: BoxedPart<A>,
+    part: SentPart<A>,
 ) {
     assert!(rt; server.put(rt, sender, part, &mut NoProbe).is_ok());
 }

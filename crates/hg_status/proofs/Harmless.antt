@@ -1,6 +1,6 @@
 -- No byte of what is shown of a name can begin or end a tag, a value or a line.
 use Rattle.std.proofs.Common.{◌≡◌, ℕ, zero, suc, ◌<◌, ◌≤◌, ◌/◌, ◌%◌, ◌+◌, Bool, true, false, List, [], ◌∷◌, ◌++◌, codes, refl, sym, arith}
-use Rattle.std.specs.Prelude.{chars, flat_map, if◌then◌else◌, ◌==◌, ◌||◌, ◌&&◌, nat_lt, nat_le}
+use Rattle.std.specs.Prelude.{chars, flat_map, if◌then◌else◌, ◌==◌, ◌||◌, nat_lt}
 use Rattle.std.specs.Char.{encode_utf8, is_ascii_control, is_control}
 use Rattle.std.specs.Fmt.{digit_glyph, digits, digits_onto}
 use Rattle.std.specs.List.{list_any}

@@ -1,7 +1,7 @@
 -- How a push ended, as it is shown.
 use Rattle.std.specs.Prelude.{ℕ, ◌-◌}
-use Rattle.hg_types.specs.declared.item.CutReason.{CutReason}
-use Rattle.hg_types.specs.declared.item.CutReason.TheVariants as cut
+use Rattle.hg_parts.specs.declared.item.CutReason.{CutReason}
+use Rattle.hg_parts.specs.declared.item.CutReason.TheVariants as cut
 use Rattle.hg_parts.specs.declared.refusal.RaceText.{RaceText}
 use Rattle.hg_parts.specs.declared.refusal.RaceText.TheVariants as race
 use Rattle.hg_parts.specs.declared.refusal.Refusal.{Refusal}

@@ -1,5 +1,5 @@
 -- The row of a head on the page.
-use Rattle.std.specs.Prelude.{ℕ, ◌==◌, List, [], ◌∷◌, ◌++◌, Option, None, Some, codes, decimal, drop, flat_map, take}
+use Rattle.std.specs.Prelude.{ℕ, ◌==◌, List, [], ◌++◌, Option, None, Some, codes, decimal, drop, flat_map, take}
 use Rattle.std.specs.Prelude.{if◌then◌else◌}
 use Rattle.hex.specs.Hex.{encode_lower}
 use Rattle.hg_types.specs.declared.phase.Phase.{Phase}

@@ -4,10 +4,9 @@ ghost use Rattle.std.specs.Prelude.{◌≡◌};
 ghost use Rattle.hg_status.specs.Outcomes.{cut_shown, outcome_shown, race_shown, reason_shown, refusal_shown};
 
 use crate::push::{AbortReason, ShownOutcome};
-use hg_parts::RaceText;
+use hg_parts::{CutReason, RaceText};
 use hg_push::{Outcome, Reason as PushReason};
 use hg_repo::{Done, Refusal};
-use hg_types::CutReason;
 
 /// How a push ended, as it is shown. A done one is the last of so many.
 pub fn shown_outcome(outcome: &Outcome<Done, Refusal>, count: u64) -> ShownOutcome

@@ -50,14 +50,14 @@ fn put_on<A: Allocator + Copy>(
     let size = u32::try_from(text.len()).unwrap_or(u32::MAX);
     delta.extend_from_slice(&size.to_be_bytes())?;
     delta.extend_from_slice(text)?;
-    let entry = Entry {
+    let mut entry = Entry {
         node,
         p1: parent,
         p2: NULL,
         base: NULL,
         delta: Delta::of(Seq::from_vec(delta)),
     };
-    match parts.log.add(&entry) {
+    match parts.log.add(&mut entry) {
         Ok(Added::New(_)) => Ok(node),
         _ => Err(NoMemory),
     }

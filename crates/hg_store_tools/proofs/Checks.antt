@@ -1,5 +1,5 @@
 -- A store that is gone through once.
-use Rattle.std.proofs.Common.{ℕ, ◌+◌, List, [], ◌++◌, length, Option}
+use Rattle.std.proofs.Common.{ℕ, ◌+◌, List, ◌++◌, length, Option}
 use Rattle.hg_store.specs.Entries.{Entry}
 use Rattle.hg_store.specs.Pieces.{HasToGive}
 use Rattle.hg_store.specs.declared.head.Head.{Head}

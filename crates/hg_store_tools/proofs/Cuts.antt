@@ -9,17 +9,17 @@ use Rattle.std.proofs.lemmas.List.{append-nil, drop_all, drop_at, take_all}
 use Rattle.hg_store.specs.Entries.{Entry}
 use Rattle.hg_store.specs.Files.{digest_behind, stored}
 use Rattle.hg_store.specs.Tails.{is_blank}
-use Rattle.hg_store.specs.Head.{HasHead, IsRefusedFor, first_digest, head_bytes, version_of}
+use Rattle.hg_store.specs.Head.{first_digest, head_bytes, version_of}
 use Rattle.hg_store.specs.Pieces.{HasToGive}
 use Rattle.hg_store.specs.Records.{IsDamaged, IsEnd, IsRecord, IsTorn, digest_of, frame, frames}
 use Rattle.hg_store.specs.declared.head.Head.{Head}
 use Rattle.hg_store.specs.declared.head.Version.{Version}
 use Rattle.hg_store.specs.declared.record.NoRecord.{NoRecord}
 use Rattle.hg_store.specs.declared.record.NoRecord.TheVariants.{Damaged as damaged, End as at_end, Torn as torn}
-use Rattle.hg_store_tools.specs.Cutting.{AreNew, AreUnplaced, CutSoFar, CutsNoRecord, CutsRecord, HasCut, HasNoPlace}
+use Rattle.hg_store_tools.specs.Cutting.{AreNew, AreUnplaced, CutSoFar, CutsNoRecord, CutsRecord, HasCut}
 use Rattle.hg_store_tools.specs.Cutting.{HasPlace, IsFront, IsOfFiles, IsStopOf, IsToldAs, IsUncut, StopsSo, joined}
-use Rattle.hg_store_tools.specs.Filling.{AddsRecord, Filled, FillsMore, HasRecords, IsFilled, IsUnplaced, StoreFilled}
-use Rattle.hg_store_tools.specs.Reading.{EndsSo, GivesFrom, HasFront, IsRestOf, IsUnread}
+use Rattle.hg_store_tools.specs.Filling.{AddsRecord, Filled, FillsMore, HasRecords, IsFilled, IsUnplaced}
+use Rattle.hg_store_tools.specs.Reading.{GivesFrom, HasFront, IsRestOf, IsUnread}
 use Rattle.hg_store_tools.specs.Visiting.{Begins, IsUnreadAt, StopsVisiting, Visits, VisitsEach, failed, has_no_begin}
 use Rattle.hg_store_tools.specs.Visiting.{unread}
 use Rattle.hg_store_tools.specs.declared.cut.CutFault.{CutFault}

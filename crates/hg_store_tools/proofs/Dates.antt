@@ -1,5 +1,5 @@
 -- The days of years and of months.
-use Rattle.std.proofs.Common.{◌≡◌, ℕ, suc, ◌+◌, ◌≤◌, ◌==◌, ◌||◌, cond, true, false, Bool, refl, ap, arith, lit≤}
+use Rattle.std.proofs.Common.{◌≡◌, ℕ, suc, ◌+◌, ◌≤◌, ◌==◌, ◌||◌, cond, true, false, refl, ap, arith, lit≤}
 use Rattle.hg_store_tools.specs.Date.{days_of_month, days_of_months, days_of_year, days_of_years, is_leap}
 
 pub days_of_years-zero : days_of_years 0 ≡ 0

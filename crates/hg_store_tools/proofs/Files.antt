@@ -1,5 +1,5 @@
 -- What a reader gave, as the front of a file.
-use Rattle.std.proofs.Common.{◌≡◌, ◌≢◌, ◌⊎◌, inl, inr, ℕ, ◌+◌, ◌<◌, ◌≤◌, List, [], ◌∷◌, ◌++◌, length, take, drop}
+use Rattle.std.proofs.Common.{◌≡◌, ◌≢◌, ◌⊎◌, inl, inr, ℕ, ◌+◌, ◌≤◌, List, [], ◌∷◌, ◌++◌, length, take, drop}
 use Rattle.std.proofs.Common.{refl, sym, ap, ◌∙◌, subst, arith, append_assoc, length-append, take-append-drop, Option}
 use Rattle.std.proofs.Common.{Some, None}
 use Rattle.std.proofs.KnownBytes.{Consumes-trans}
@@ -7,12 +7,11 @@ use Rattle.std.proofs.lemmas.List.{append-nil, length-take-le, take_at}
 use Rattle.std.specs.Io.KnownBytes.{Consumes, IsAtEnd}
 use Rattle.std.specs.List.{AllByRecursion}
 use Rattle.hg_types.specs.declared.limits.Limits.{Limits}
-use Rattle.hg_types.specs.Limits.{IsAllowed}
 use Rattle.hg_store.specs.Entries.{Entry}
-use Rattle.hg_store.specs.Files.{IsDamagedStore, IsStore, digest_behind, stored}
-use Rattle.hg_store.specs.Head.{HasBadLimits, HasBadPublishing, HasOtherMagic, HasOtherVersion, HasShortHead, IsHead}
+use Rattle.hg_store.specs.Files.{IsStore, digest_behind}
+use Rattle.hg_store.specs.Head.{HasBadLimits, HasBadPublishing, HasOtherMagic, HasOtherVersion}
 use Rattle.hg_store.specs.Head.{IsRefusedFor, first_digest, head_bytes, head_size, limits_bytes, magic, version_of}
-use Rattle.hg_store.specs.Pieces.{GivesNoHead, HasToGive}
+use Rattle.hg_store.specs.Pieces.{HasToGive}
 use Rattle.hg_store.specs.Records.{IsDamaged, IsEnd, IsRecord, IsTorn, frames, label, last_digest, no_gate, open_gate}
 use Rattle.hg_store.specs.Records.{other_digest, over, shut}
 use Rattle.hg_store.specs.declared.head.Head.{Head}

@@ -1,17 +1,15 @@
 -- A new file that is written, a piece at a time.
-use Rattle.std.proofs.Common.{◌≡◌, ◌⊎◌, inl, inr, ℕ, zero, suc, ◌+◌, ◌<◌, ◌≤◌, Bool, true, false, List, [], ◌∷◌, ◌++◌}
-use Rattle.std.proofs.Common.{length, take, drop, refl, sym, ap, ◌∙◌, subst, arith, append_assoc, length-append}
+use Rattle.std.proofs.Common.{◌≡◌, inl, inr, ℕ, zero, suc, ◌+◌, ◌<◌, Bool, true, false, List, [], ◌∷◌, ◌++◌}
+use Rattle.std.proofs.Common.{length, take, drop, sym, ap, ◌∙◌, subst, arith, append_assoc, length-append}
 use Rattle.std.proofs.lemmas.List.{append-nil, drop_all, take_all}
-use Rattle.hg_store.specs.Calls.{Event, FileState, IsPlaced, IsPlacedFrom, IsPlacedWhole, IsWholeAt, MayLeave}
+use Rattle.hg_store.specs.Calls.{Event, FileState, IsPlacedFrom, IsPlacedWhole, IsWholeAt, MayLeave}
 use Rattle.hg_store.specs.Calls.{after_sync, placed, shortened, state_from, synced, wrote}
-use Rattle.hg_store.specs.Device.{Only}
 use Rattle.hg_store.specs.declared.head.Head.{Head}
 use Rattle.hg_store.specs.declared.head.Version.{Version}
 use Rattle.hg_store.specs.Entries.{Entry}
 use Rattle.hg_store.specs.Files.{digest_behind, stored}
 use Rattle.hg_store.specs.Head.{first_digest, head_bytes, version_of}
-use Rattle.hg_store.specs.Log.{at_rest}
-use Rattle.hg_store.specs.Records.{digest_of, frame, frames, last_digest}
+use Rattle.hg_store.specs.Records.{digest_of, frame, frames}
 use Rattle.hg_store_tools.specs.Filling.{AddsRecord, Filled, FillsMore, HasRecords, IsFilled, IsUnplaced, StoreFilled}
 use Rattle.hg_store_tools.proofs.Frames.{frames-push, last_digest-push}
 

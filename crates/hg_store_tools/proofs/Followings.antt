@@ -1,7 +1,7 @@
 -- Frames that are written, and a store that is followed.
-use Rattle.std.proofs.Common.{◌≡◌, ◌⊎◌, inl, inr, ℕ, zero, suc, ◌+◌, ◌<◌, ◌≤◌, List, [], ◌∷◌, ◌++◌, length, take}
+use Rattle.std.proofs.Common.{◌≡◌, ◌⊎◌, inl, inr, ℕ, suc, ◌+◌, ◌<◌, ◌≤◌, List, [], ◌∷◌, ◌++◌, length, take}
 use Rattle.std.proofs.Common.{drop, refl, sym, ap, ◌∙◌, subst, arith, append_assoc, length-append, take-append-drop}
-use Rattle.std.proofs.Common.{get_or, Option, Some, None}
+use Rattle.std.proofs.Common.{get_or, Option}
 use Rattle.std.proofs.lemmas.List.{append-nil, drop_more, length-take-le}
 use Rattle.std.proofs.KnownBytes.{Appends-nil, Appends-trans}
 use Rattle.std.specs.Io.KnownBytes.{Appends}
@@ -17,10 +17,10 @@ use Rattle.hg_store_tools.specs.declared.fault.Fault.TheVariants.{Damaged, Exist
 use Rattle.hg_store_tools.specs.declared.fault.Fault.TheVariants.{Missing, NoBundle, NoMemory, NoPlace, Refused, Torn}
 use Rattle.hg_store_tools.specs.declared.fault.Fault.TheVariants.{Unsent, Upgraded}
 use Rattle.hg_store_tools.specs.declared.follow.FollowEnd.{FollowEnd}
-use Rattle.hg_store_tools.specs.declared.follow.FollowEnd.TheVariants.{Left, Stopped}
+use Rattle.hg_store_tools.specs.declared.follow.FollowEnd.TheVariants.{Stopped}
 use Rattle.hg_store_tools.specs.Trails.{AreFramesOf, EndsAt, EndsSoAt, EndsSync, EndsTrail, Follows, HasFollowed}
 use Rattle.hg_store_tools.specs.Trails.{IsFrameOf, IsFrontOf, IsFrontOfFirst, SendsFrame, SendsFrames, SendsNoFrame}
-use Rattle.hg_store_tools.specs.Trails.{StopsFollowing, StopsSending, unsent, unsynced, with_next}
+use Rattle.hg_store_tools.specs.Trails.{StopsFollowing, StopsSending, unsent, unsynced}
 use Rattle.hg_store_tools.specs.Logging.{IsInForm, LogForm}
 use Rattle.hg_store_tools.specs.PushFrames.{IsUnframed, SendsFront, frame_front, push_frame}
 use Rattle.hg_store_tools.specs.Reporting.{sending_fault}

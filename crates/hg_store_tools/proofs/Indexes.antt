@@ -1,6 +1,6 @@
 -- The bytes of an index.
-use Rattle.std.proofs.Common.{◌≡◌, ◌⊎◌, inl, inr, ℕ, zero, suc, ◌+◌, ◌-◌, ◌*◌, ◌<◌, ◌≤◌, List, [], ◌∷◌, ◌++◌, length, take}
-use Rattle.std.proofs.Common.{drop, refl, sym, ap, ◌∙◌, subst, arith, append_assoc, length-append, get_or}
+use Rattle.std.proofs.Common.{◌≡◌, ℕ, ◌+◌, ◌-◌, ◌*◌, ◌<◌, List, [], ◌∷◌, ◌++◌, length, take}
+use Rattle.std.proofs.Common.{drop, refl, sym, ap, ◌∙◌, arith, append_assoc, length-append, get_or}
 use Rattle.std.proofs.lemmas.List.{append-nil, drop_at, nil_from_length, take_at, take_more}
 use Rattle.std.proofs.Common.{Bool, true, false, ◌%◌, ◌↔◌}
 use Rattle.std.specs.Prelude.{IsTrue}

@@ -1,11 +1,10 @@
 -- Lines that are written of the records of a store, from a place on.
 use Rattle.std.proofs.Common.{◌≡◌, ◌⊎◌, inl, inr, ℕ, zero, suc, ◌+◌, ◌-◌, ◌<◌, ◌≤◌, List, [], ◌∷◌, ◌++◌, length, drop}
-use Rattle.std.proofs.Common.{refl, sym, ap, ◌∙◌, subst, arith, Option}
+use Rattle.std.proofs.Common.{refl, sym, ◌∙◌, subst, arith, Option}
 use Rattle.std.proofs.lemmas.List.{append-nil}
 use Rattle.std.proofs.KnownBytes.{Appends-nil, Appends-trans}
 use Rattle.std.specs.Io.KnownBytes.{Appends, Consumes}
-use Rattle.std.specs.List.{AllByRecursion, concat}
-use Rattle.hg_types.specs.declared.limits.Limits.{Limits}
+use Rattle.std.specs.List.{concat}
 use Rattle.hg_store.specs.Entries.{Entry}
 use Rattle.hg_store.specs.Head.{version_of}
 use Rattle.hg_store.specs.Pieces.{HasToGive}
@@ -16,7 +15,7 @@ use Rattle.hg_connection.specs.Sent.{Sends}
 use Rattle.hg_connection.specs.declared.sending.Sending.{Sending}
 use Rattle.hg_connection.specs.declared.sending.Sending.TheVariants.{Whole as sent_whole}
 use Rattle.hg_store_tools.specs.Canonical.{IsUncanonical}
-use Rattle.hg_store_tools.specs.Listing.{AreLines, IsLine, IsLineStop, IsListed, IsListedOn, IsUnlisted, ListForm}
+use Rattle.hg_store_tools.specs.Listing.{AreLines, IsLine, IsListed, IsListedOn, IsUnlisted, ListForm}
 use Rattle.hg_store_tools.specs.Listing.{ListsNoRecord, ListsRecord}
 use Rattle.hg_store_tools.specs.Listing.{headless, no_line, stopped, unread, unsent}
 use Rattle.hg_store_tools.specs.Reporting.{sending_fault}

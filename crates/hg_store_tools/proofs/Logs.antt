@@ -1,10 +1,10 @@
 -- Bundles that are written, or put on a shelf, from a place on.
 use Rattle.std.proofs.Common.{◌≡◌, ◌⊎◌, inl, inr, ℕ, zero, suc, ◌+◌, ◌-◌, ◌<◌, ◌≤◌, List, [], ◌∷◌, ◌++◌, length, drop}
-use Rattle.std.proofs.Common.{refl, sym, ap, ◌∙◌, subst, arith, append_assoc, Option, Some, None}
+use Rattle.std.proofs.Common.{refl, sym, ◌∙◌, subst, arith, Option}
 use Rattle.std.proofs.lemmas.List.{append-nil}
 use Rattle.std.proofs.KnownBytes.{Appends-nil, Appends-trans}
 use Rattle.std.specs.Io.KnownBytes.{Appends, Consumes}
-use Rattle.std.specs.List.{AllByRecursion, concat}
+use Rattle.std.specs.List.{concat}
 use Rattle.hg_types.specs.declared.limits.Limits.{Limits}
 use Rattle.hg_store.specs.Entries.{Entry}
 use Rattle.hg_store.specs.Head.{version_of}
@@ -17,7 +17,7 @@ use Rattle.hg_connection.specs.declared.sending.Sending.{Sending}
 use Rattle.hg_connection.specs.declared.sending.Sending.TheVariants.{Whole as sent_whole}
 use Rattle.hg_connection.proofs.DeviceLemmas.{Adds-nil, Adds-trans}
 use Rattle.hg_store_tools.specs.Canonical.{IsUncanonical}
-use Rattle.hg_store_tools.specs.Logging.{AreInForm, IsInForm, IsLogged, IsLoggedOn, IsShelved, IsShelvedOn, IsStop}
+use Rattle.hg_store_tools.specs.Logging.{AreInForm, IsInForm, IsLogged, IsLoggedOn, IsShelved, IsShelvedOn}
 use Rattle.hg_store_tools.specs.Logging.{IsUnlogged, LogForm}
 use Rattle.hg_store_tools.specs.Logging.{PutsRecord, SendsNoRecord, SendsRecord, numbered}
 use Rattle.hg_store_tools.specs.Logging.{headless, stopped, uncanonical, unread, unsent}

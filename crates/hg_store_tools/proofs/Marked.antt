@@ -1,10 +1,10 @@
 -- A store that is read from a mark on, and from its front.
-use Rattle.std.proofs.Common.{◌≡◌, ◌⊎◌, inl, inr, ℕ, zero, suc, ◌+◌, ◌-◌, ◌<◌, ◌≤◌, List, [], ◌∷◌, ◌++◌, length, drop}
+use Rattle.std.proofs.Common.{◌≡◌, ◌⊎◌, inl, inr, ℕ, zero, suc, ◌+◌, ◌-◌, ◌≤◌, List, [], ◌∷◌, ◌++◌, length, drop}
 use Rattle.std.proofs.Common.{refl, sym, ap, ◌∙◌, subst, arith, append_assoc, length-append, Option, Some, None}
 use Rattle.std.proofs.lemmas.List.{append-nil, drop_at}
 use Rattle.std.specs.List.{AllByRecursion}
 use Rattle.hg_store.specs.Entries.{Entry}
-use Rattle.hg_store.specs.Files.{IsStore, digest_behind, stored}
+use Rattle.hg_store.specs.Files.{stored}
 use Rattle.hg_store.specs.Head.{HasHead, IsHead, IsIdentity, first_digest, head_bytes, head_size, identity_bytes}
 use Rattle.hg_store.specs.Head.{version_by, version_of}
 use Rattle.hg_store.specs.Records.{IsEnd, IsRecord, IsTorn, digest_of, frame, frames, last_digest}
@@ -12,7 +12,7 @@ use Rattle.hg_store.specs.declared.head.Head.{Head}
 use Rattle.hg_store.specs.declared.head.Version.{Version}
 use Rattle.hg_store_tools.specs.Listing.{AreLines, IsListed, IsListedOn}
 use Rattle.hg_store_tools.specs.Logging.{AreInForm, IsLogged, IsLoggedOn, IsShelved, IsShelvedOn}
-use Rattle.hg_store_tools.specs.Places.{BeginsAt, HasMark, IsReadOn, LeadsTo, Says, front_mark}
+use Rattle.hg_store_tools.specs.Places.{BeginsAt, HasMark, LeadsTo, Says, front_mark}
 use Rattle.hg_store_tools.specs.Reading.{EndsSo, IsRead}
 use Rattle.hg_store_tools.specs.declared.fault.StoreEnd.{StoreEnd}
 use Rattle.hg_store_tools.specs.declared.fault.StoreEnd.TheVariants.{Whole, Torn}

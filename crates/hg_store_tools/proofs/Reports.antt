@@ -1,20 +1,18 @@
 -- Records that are run one by one, and their report.
-use Rattle.std.proofs.Common.{◌≡◌, inl, inr, ℕ, zero, suc, ◌+◌, ◌<◌, List, [], ◌∷◌, ◌++◌, length, take, refl, sym, ap}
-use Rattle.std.proofs.Common.{◌∙◌, subst, arith, append_assoc, length-append, Option, Some, None, get_or}
+use Rattle.std.proofs.Common.{◌≡◌, ℕ, ◌+◌, List, [], ◌∷◌, ◌++◌, length, take, refl, sym, ap}
+use Rattle.std.proofs.Common.{◌∙◌, subst, arith, length-append, Option, get_or}
 use Rattle.std.proofs.lemmas.List.{append-nil, take_at}
 use Rattle.std.specs.Io.KnownBytes.{Consumes}
 use Rattle.hg_types.specs.declared.limits.Limits.{Limits}
 use Rattle.hg_push.specs.Run.{RepositoryOf}
 use Rattle.hg_recovery.specs.Opening.{empty_repository}
-use Rattle.hg_recovery.specs.Replays.{IsUnrun, Replays, ReplaysOne, StopsAt}
-use Rattle.hg_recovery.specs.declared.restore.RestoreFault.{RestoreFault}
+use Rattle.hg_recovery.specs.Replays.{IsUnrun, Replays, ReplaysOne}
 use Rattle.hg_store.specs.Entries.{Entry}
 use Rattle.hg_store.specs.Head.{setup_of, version_of}
 use Rattle.hg_store.specs.Pieces.{HasToGive}
 use Rattle.hg_store.specs.Records.{frames}
 use Rattle.hg_store.specs.declared.head.Head.{Head}
 use Rattle.hg_store_tools.specs.Reporting.{IsUntold, Replayed, ReplaysNoRecord, ReplaysRecord, Reports, report_text}
-use Rattle.hg_store_tools.specs.Reporting.{unrun_fault}
 use Rattle.hg_store_tools.specs.Reporting.{unread as untold_unread, unrun}
 use Rattle.hg_store_tools.specs.Visiting.{Begins, StopsVisiting, Visits, VisitsEach, failed, has_no_begin, unread}
 use Rattle.hg_store_tools.specs.declared.fault.Fault.{Fault}

@@ -1,31 +1,29 @@
 -- A store of version 1, as one of version 2.
-use Rattle.std.proofs.Common.{◌≡◌, ◌≢◌, ◌⊎◌, inl, inr, ◌+◌, ◌<◌, ◌^◌, ◌∙◌, ap, arith, refl, subst, sym, append_assoc}
-use Rattle.std.proofs.Common.{ℕ, List, [], ◌∷◌, ◌++◌, length, Option}
+use Rattle.std.proofs.Common.{◌≡◌, ◌⊎◌, inl, inr, ◌+◌, arith, refl, subst, sym, append_assoc}
+use Rattle.std.proofs.Common.{ℕ, List, [], ◌∷◌, ◌++◌, Option}
 use Rattle.std.proofs.lemmas.List.{append-nil}
 use Rattle.std.specs.List.{AllByRecursion}
-use Rattle.hg_store.specs.Calls.{Event, IsPlacedWhole}
 use Rattle.hg_store.specs.declared.head.Head.{Head}
 use Rattle.hg_store.specs.declared.head.Setup.{Setup}
 use Rattle.hg_store.specs.declared.head.Version.{Version}
 use Rattle.hg_store.specs.declared.head.Version.TheVariants.{First, Second}
 use Rattle.hg_store.specs.Entries.{Entry}
-use Rattle.hg_store.specs.Files.{IsStore, IsTornStore, StandsFor, digest_behind, stored}
-use Rattle.hg_store.specs.Head.{HasHead, IsHead, head_bytes, head_for, setup_of, version_of}
+use Rattle.hg_store.specs.Files.{IsStore, IsTornStore, StandsFor, stored}
+use Rattle.hg_store.specs.Head.{IsHead, head_bytes, head_for, setup_of, version_of}
 use Rattle.hg_store.specs.Log.{at_rest}
 use Rattle.hg_store.specs.Pieces.{HasToGive}
-use Rattle.hg_store.specs.Records.{IsRecord, frames, shut}
-use Rattle.hg_store_tools.specs.Filling.{AddsRecord, HasRecords, IsUnplaced, StoreFilled}
-use Rattle.hg_store_tools.specs.Reading.{IsRead, IsUnread}
+use Rattle.hg_store.specs.Records.{IsRecord, shut}
+use Rattle.hg_store_tools.specs.Filling.{HasRecords, IsUnplaced, StoreFilled}
+use Rattle.hg_store_tools.specs.Reading.{IsUnread}
 use Rattle.hg_store_tools.specs.Upgrading.{IsNotUpgraded, IsToldOfNew, IsUpgradeOf, IsUpgraded, UpgradesNoRecord}
 use Rattle.hg_store_tools.specs.Upgrading.{UpgradesRecord}
 use Rattle.hg_store_tools.specs.Visiting.{Begins, StopsVisiting, Visits, VisitsEach, failed, has_no_begin, unread}
 use Rattle.hg_store_tools.specs.declared.cut.CutFault.{CutFault}
-use Rattle.hg_store_tools.specs.declared.cut.CutFault.TheVariants.{Kept, New, Store}
+use Rattle.hg_store_tools.specs.declared.cut.CutFault.TheVariants.{Store}
 use Rattle.hg_store_tools.specs.declared.fault.Fault.{Fault}
 use Rattle.hg_store_tools.specs.declared.fault.Fault.TheVariants.{Damaged, Exists, Failed, Head as HasNoHead, Held}
 use Rattle.hg_store_tools.specs.declared.fault.Fault.TheVariants.{Missing, NoBundle, NoMemory, NoPlace, Refused}
 use Rattle.hg_store_tools.specs.declared.fault.Fault.TheVariants.{Torn as TornAt, Unsent, Upgraded}
-use Rattle.hg_store_tools.specs.declared.fault.StoreEnd.{StoreEnd}
 use Rattle.hg_store_tools.specs.declared.fault.StoreEnd.TheVariants.{Whole, Torn}
 use Rattle.hg_store_tools.proofs.Files.{any_file, file_of, has_front, headless, is_read, is_unread, is_unread_at}
 use Rattle.hg_store_tools.proofs.Files.{whole_file}

@@ -1,5 +1,5 @@
 -- Marks of a store that is read from one of them on.
-use Rattle.std.proofs.Common.{◌≡◌, ◌⊎◌, inl, inr, ℕ, zero, suc, ◌+◌, ◌<◌, ◌≤◌, List, [], ◌∷◌, ◌++◌, length, drop}
+use Rattle.std.proofs.Common.{◌≡◌, ◌⊎◌, inl, inr, ℕ, ◌+◌, ◌<◌, ◌≤◌, List, [], ◌∷◌, ◌++◌, length, drop}
 use Rattle.std.proofs.Common.{get_or, take, take-append-drop, Result, Ok, Err}
 use Rattle.std.proofs.lemmas.List.{drop_more}
 use Rattle.std.specs.Prelude.{IfOk}
@@ -9,7 +9,7 @@ use Rattle.std.specs.Io.KnownBytes.{Consumes}
 use Rattle.std.specs.List.{AllByRecursion}
 use Rattle.sha1.specs.Sha1.{sha1, digest_bytes}
 use Rattle.hg_store.specs.Entries.{Entry}
-use Rattle.hg_store.specs.Head.{HasHead, IsHead, first_digest, head_bytes, version_of}
+use Rattle.hg_store.specs.Head.{HasHead, head_bytes, version_of}
 use Rattle.hg_store.specs.Pieces.{GivesRecord}
 use Rattle.hg_store.specs.Records.{IsRecord, chained_label, digest_of, frame, frames, label, last_digest, numbers_bytes}
 use Rattle.hg_store.specs.Records.{numbers_of, numbers_size}

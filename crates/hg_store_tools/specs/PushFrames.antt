@@ -1,5 +1,5 @@
 -- The frame of a push, as a follower of a store writes it.
-use Rattle.std.specs.Prelude.{ℕ, ◌≡◌, ◌^◌, ◌≤◌, ◌⊎◌, ⊤, List, ◌∷◌, ◌++◌, Option, length}
+use Rattle.std.specs.Prelude.{ℕ, ◌≡◌, ⊤, List, ◌∷◌, ◌++◌, Option, length}
 use Rattle.std.specs.Int.{w32, w64, to_be_bytes}
 use Rattle.std.specs.Io.KnownBytes.{Appends}
 use Rattle.sha1.specs.Sha1.{sha1}

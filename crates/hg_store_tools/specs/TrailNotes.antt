@@ -1,5 +1,5 @@
 -- What was done with a store that is followed: records that were found, and syncs.
-use Rattle.std.specs.Prelude.{ℕ, List, [], ◌∷◌, ◌++◌, Option, Some, None}
+use Rattle.std.specs.Prelude.{List, [], ◌∷◌, ◌++◌, Option, Some, None}
 use Rattle.hg_store.specs.Entries.{Entry}
 use Rattle.hg_store_tools.specs.declared.notes.TrailStep.{TrailStep}
 use Rattle.hg_store_tools.specs.declared.notes.TrailStep.TheVariants.{Found, Synced}

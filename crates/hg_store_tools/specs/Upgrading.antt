@@ -1,5 +1,5 @@
 -- A store of version 1 that is written as one of version 2.
-use Rattle.std.specs.Prelude.{ℕ, ◌≡◌, ◌≢◌, ◌⊎◌, ⊤, List, [], ◌∷◌, ◌++◌, length}
+use Rattle.std.specs.Prelude.{ℕ, ◌≡◌, ◌≢◌, ◌⊎◌, ⊤, List, length}
 use Rattle.hg_store.specs.Calls.{Event, IsPlacedWhole}
 use Rattle.hg_store.specs.declared.head.Head.{Head}
 use Rattle.hg_store.specs.declared.head.Version.TheVariants.{First, Second}

@@ -1,7 +1,7 @@
 -- Clients that were served.
 use Rattle.std.proofs.Common.{◌≡◌, ℕ, List, [], ◌∷◌, ◌++◌, Bool, true, false, if◌then◌else◌, All, subst}
 use Rattle.std.proofs.lemmas.List.Elements.{All-push, All-same}
-use Rattle.hg_types.specs.declared.item.Taken.{Taken}
+use Rattle.hg_parts.specs.declared.item.Taken.{Taken}
 use Rattle.hg_types.specs.declared.limits.Limits.{Limits}
 use Rattle.hg_parts.specs.Repository.{Repository}
 use Rattle.hg_connection.specs.Devices.{Input, Output}

@@ -1,6 +1,6 @@
 -- The client of a connection that is over.
 use Rattle.std.specs.Prelude.{ℕ, List, []}
-use Rattle.hg_types.specs.declared.item.Taken.{Taken}
+use Rattle.hg_parts.specs.declared.item.Taken.{Taken}
 use Rattle.hg_parts.specs.Repository.{Repository}
 use Rattle.hg_connection.specs.Devices.{Input, Output}
 use Rattle.hg_connection.specs.declared.served.Served.{Served}

@@ -1,7 +1,7 @@
 //! What accepts connections, and hears what becomes of them.
 
 ghost use Rattle.std.specs.Prelude.{◌∷◌, [], List, Option, None, is_some, ⊤};
-ghost use Rattle.hg_types.specs.declared.item.Taken.{Taken};
+ghost use Rattle.hg_parts.specs.declared.item.Taken.{Taken};
 ghost use Rattle.hg_connection.specs.Devices.{TellsMore};
 ghost use Rattle.hg_tcp.specs.Accepting.{DoorUse, Accepted, AllOver, Started};
 

@@ -21,7 +21,7 @@ pub struct ServedClients<J: ServiceNaming<A>, A: Allocator = Global> {
 
 impl<J: ServiceNaming<A>, A: Allocator> Model for ServedClients<J, A> {
     ghost use Rattle.std.specs.Prelude.{List, All};
-    ghost use Rattle.hg_types.specs.declared.item.Taken.{Taken};
+    ghost use Rattle.hg_parts.specs.declared.item.Taken.{Taken};
     ghost use Rattle.hg_tcp.specs.Served.{WasServed};
 
     ghost Value = { List (List (Taken A)) };

@@ -1,7 +1,7 @@
 //! A server, and what its threads leave.
 
 ghost use Rattle.std.specs.Prelude.{◌≡◌, ◌≤◌, [], List, MatchOption};
-ghost use Rattle.hg_types.specs.declared.item.Taken.{Taken};
+ghost use Rattle.hg_parts.specs.declared.item.Taken.{Taken};
 ghost use Rattle.hg_serve.specs.Desks.{OpensWith};
 ghost use Rattle.hg_connection.specs.Connections.{Connects};
 ghost use Rattle.hg_tcp.specs.Served.{WasServed};

@@ -1,7 +1,7 @@
 -- The records of a front of a journal are the bundles of its pushes, and so lead to the repository of that front.
 use Rattle.std.proofs.Common.{ℕ, zero, suc, Bool, ◌≡◌, ◌+◌, ◌≤◌, List, [], ◌∷◌, ◌++◌, refl, sym, ap, ◌∙◌, subst}
 use Rattle.std.proofs.Common.{arith, append_assoc, length, length-append, take}
-use Rattle.hg_types.specs.declared.item.Taken.{Taken}
+use Rattle.hg_parts.specs.declared.item.Taken.{Taken}
 use Rattle.hg_types.specs.declared.limits.Limits.{Limits}
 use Rattle.hg_types.specs.declared.limits.Settings.{Settings}
 use Rattle.hg_types.specs.declared.part.Part.{Part}

@@ -4,7 +4,7 @@ use Rattle.std.proofs.Common.{sym, ap, ◌∙◌, subst, arith, append_assoc, le
 use Rattle.std.proofs.Common.{Option, Some, None, Result, Ok, Err, inl, inr, eq-or-lt_of_le, take_all}
 use Rattle.std.proofs.lemmas.List.{reverse-append, reverse-reverse}
 use mathlib.Core.List.{IsPrefix}
-use Rattle.hg_types.specs.declared.item.Taken.{Taken}
+use Rattle.hg_parts.specs.declared.item.Taken.{Taken}
 use Rattle.hg_push.specs.Changed.{OneByOne}
 use Rattle.hg_push.specs.History.{History, Running, Serial, after, decided, is_closed, kept, parts, serial}
 use Rattle.hg_push.specs.Places.{IsPlace}

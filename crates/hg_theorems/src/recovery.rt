@@ -2,7 +2,7 @@
 
 ghost use Rattle.std.specs.Prelude.{◌≡◌, ◌<◌, ℕ, Bool, List, Ok, length};
 ghost use mathlib.Core.List.{IsPrefix};
-ghost use Rattle.hg_types.specs.declared.item.Taken.{Taken as TakenItem};
+ghost use Rattle.hg_parts.specs.declared.item.Taken.{Taken as TakenItem};
 ghost use Rattle.hg_types.specs.declared.limits.Limits.{Limits as AnyLimits};
 ghost use Rattle.hg_types.specs.declared.part.Part.{Part as AnyPart};
 ghost use Rattle.hg_repo.specs.declared.done.Done.{Done};

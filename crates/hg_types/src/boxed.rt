@@ -49,6 +49,14 @@ impl<A: Allocator> BoxedPart<A> {
         Box::into_inner(block)
     }
 
+    /// Its allocator.
+    pub fn allocator(&self) -> A
+    where
+        A: Copy,
+    {
+        *Box::allocator(&self.block)
+    }
+
     /// Takes the payload out of the part, which has none then.
     pub fn take_payload(&mut self) -> Payload<A>
     where
@@ -113,5 +121,25 @@ impl<T, A: Allocator> BoxedSeq<T, A> {
     {
         let BoxedSeq { block: list } = self;
         Box::into_inner(list)
+    }
+
+    /// Takes the list out of its block, which has no items then.
+    pub fn take(&mut self) -> Seq<T, A>
+    where
+        A: Copy,
+        ensures list { result ≡ self.old }
+        ensures none { self.new ≡ [] }
+    {
+        let none = Seq::new(*Box::allocator(&self.block));
+        mem::replace(self.block.as_mut(), none)
+    }
+
+    /// Puts a list into the block, in the place of its own.
+    pub fn put(&mut self, list: Seq<T, A>)
+    where
+        T: Drop,
+        ensures { self.new ≡ list }
+    {
+        *self.block = list;
     }
 }

@@ -4,6 +4,7 @@ ghost use Rattle.std.specs.Prelude.{◌≡◌, ◌↔◌, ◌++◌, drop, IfSome
 ghost use Rattle.sha1.specs.Sha1.{sha1};
 ghost use Rattle.hg_types.specs.Hashes.{IsHashOf};
 
+use crate::memory::{NoMemory, TryClone};
 use crate::node::Node;
 use crate::payload::TextHash;
 use crate::seq::Seq;
@@ -16,13 +17,13 @@ use std::marker::Model;
 #[derive(Drop)]
 pub struct Delta<A: Allocator = Global> {
     bytes: Seq<u8, A>,
-    tail: Option<Box<Tail, A>>,
+    tail: Option<Tail>,
 }
 
 /// The hash of a text, and how many bytes of the delta come before it.
-#[derive(Drop)]
+#[derive(Clone, Copy)]
 struct Tail {
-    head: usize,
+    head: u32,
     hash: TextHash,
 }
 
@@ -34,7 +35,7 @@ impl<A: Allocator> Model for Delta<A> {
 
     ghost view = { λ d. d.bytes };
 
-    ghost invariant = { λ d. IfSome d.tail (λ t. IsHashOf (drop t.value.head d.bytes) t.value.hash) };
+    ghost invariant = { λ d. IfSome d.tail (λ t. IsHashOf (drop t.head d.bytes) t.hash) };
 }
 
 impl<A: Allocator> Delta<A> {
@@ -45,22 +46,16 @@ impl<A: Allocator> Delta<A> {
         Delta { bytes, tail: None }
     }
 
-    /// These bytes, with the hash of a text where that is what stands after the first so many of them. Where memory
-    /// is refused for it, it is left out.
-    pub fn with_hash(alloc: A, bytes: Seq<u8, A>, head: usize, hash: TextHash, text: &[u8]) -> Self
+    /// These bytes, with the hash of a text where that is what stands after the first so many of them.
+    pub fn with_hash(bytes: Seq<u8, A>, head: u32, hash: TextHash, text: &[u8]) -> Self
         requires { IsHashOf text.now hash }
         ensures { result ≡ bytes }
     {
-        if !ends_so(bytes.as_slice(), head, text) {
-            return Delta::of(bytes);
+        if ends_so(bytes.as_slice(), head, text) {
+            let tail = Some(Tail { head, hash });
+            return Delta { bytes, tail };
         }
-        match Box::new(alloc, Tail { head, hash }) {
-            Ok(tail) => Delta {
-                bytes,
-                tail: Some(tail),
-            },
-            Err(_) => Delta::of(bytes),
-        }
+        Delta::of(bytes)
     }
 
     /// The bytes.
@@ -75,23 +70,41 @@ impl<A: Allocator> Delta<A> {
         self.tail.is_some()
     }
 
-    /// SHA-1 of two ids and a text, one after the other, where it is known here.
-    pub fn digest_of(&self, first: &Node, second: &Node, text: &[u8]) -> Option<Node>
-        ensures { IfSome result (λ digest. digest.0 ≡ sha1 (first.now.0 ++ second.now.0 ++ text.now)) }
+    /// SHA-1 of two ids and what stands after the first so many bytes, one after the other, where it is known here.
+    pub fn digest_behind(&self, head: u32, first: &Node, second: &Node) -> Option<Node>
+        ensures { IfSome result (λ digest.
+            digest.0 ≡ sha1 (first.now.0 ++ second.now.0 ++ drop head self.now)) }
     {
-        let Some(tail) = &self.tail else {
-            return None;
-        };
-        if tail.hash.is_of(first, second) && ends_so(self.as_slice(), tail.head, text) {
+        let tail = self.tail?;
+        if tail.head == head && tail.hash.is_of(first, second) {
             return Some(tail.hash.digest);
         }
         None
     }
+
+    /// What stands after the first so many bytes, in their memory.
+    pub fn into_text(self, head: u32) -> Seq<u8, A>
+        ensures { result ≡ drop head self }
+    {
+        let mut bytes = self.bytes.into_vec();
+        let first = bytes.len().min(head as usize);
+        let left = bytes.len() - first;
+        bytes.copy_within(first.., 0);
+        bytes.truncate(left);
+        Seq::from_vec(bytes)
+    }
+}
+
+/// A copy has the bytes, and no hash.
+impl<A: Allocator + Copy> TryClone<A> for Delta<A> {
+    fn try_clone(&self, alloc: A) -> Result<Self, NoMemory> {
+        Ok(Delta::of(self.bytes.try_clone(alloc)?))
+    }
 }
 
 /// Whether the text is what stands after the first so many bytes.
-fn ends_so(bytes: &[u8], head: usize, text: &[u8]) -> bool
+fn ends_so(bytes: &[u8], head: u32, text: &[u8]) -> bool
     ensures { IsTrue result → drop head bytes.now ≡ text.now }
 {
-    head <= bytes.len() && are_same(&bytes[head..], text)
+    head as usize <= bytes.len() && are_same(&bytes[head as usize..], text)
 }

@@ -1,4 +1,4 @@
-//! The types that every crate of the server shares: nodes, phases, parts, the items of a push, and limits.
+//! The types that every crate of the server shares: nodes, phases, parts and limits.
 //!
 //! Nothing here starts a thread or waits. A type that holds memory has its allocator as its last
 //! parameter, and a list inside it is a [`Seq`], which contracts see as the list of its items. The bytes of a
@@ -8,7 +8,6 @@
 mod boxed;
 mod delta;
 mod entry;
-mod item;
 mod law;
 mod limits;
 mod memory;
@@ -25,7 +24,7 @@ mod words;
 pub use boxed::{BoxedPart, BoxedSeq};
 pub use delta::Delta;
 pub use entry::Entry;
-pub use item::{CutReason, Item, Taken, What};
+pub use hg_digests::Place;
 pub use law::{a_key_has_one_value, bytes_are_bytes, phases_are_ordered_by_number};
 pub use limits::{Limits, Settings};
 pub use memory::{NoMemory, TryClone};

@@ -41,4 +41,11 @@ impl<T> Noted<T> {
     {
         Noted { of: PhantomData }
     }
+
+    /// The same values are noted once more.
+    pub fn again(&self) -> Noted<T>
+        ensures { result.items ≡ self.now.items }
+    {
+        Noted { of: PhantomData }
+    }
 }

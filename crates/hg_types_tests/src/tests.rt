@@ -7,8 +7,8 @@ mod noted;
 mod short;
 
 use hg_types::{
-    BoxedPart, BoxedSeq, CutReason, Item, Limits, NoMemory, Node, Noted, Pages, Param, Part,
-    Payload, Phase, Seq, Short, TryClone, What, try_clone_each,
+    BoxedPart, BoxedSeq, Limits, NoMemory, Node, Noted, Pages, Param, Part, Payload, Phase, Seq,
+    Short, TryClone, try_clone_each,
 };
 use linked_list_allocator::LocalHeap;
 use std::alloc::Allocator;
@@ -63,8 +63,7 @@ fn is_same_part<A: Allocator>(a: &Part<A>, b: &Part<A>) -> bool {
             .all(|(p, q)| is_same_param(p, q))
 }
 
-// A part with a type, an id, three parameters and a payload; an item with it; a cut by stream fault
-// 9. Result: the same fields.
+// A part with a type, an id, three parameters and a payload. Result: the same fields.
 #[test]
 fn a_clone_equals_its_source(rt: HostRuntime) -> Result<(), Fail> {
     let source = part(rt.alloc(), b"CHANGEGROUP")?;
@@ -89,32 +88,6 @@ fn each_item_of_a_list_is_cloned(rt: HostRuntime) -> Result<(), Fail> {
             .zip(copies.iter())
             .all(|(a, b)| is_same_param(a, b))
     );
-    Ok(())
-}
-
-#[test]
-fn a_clone_of_an_item_equals_its_source(rt: HostRuntime) -> Result<(), Fail> {
-    let source = Item {
-        push: 3,
-        index: 1,
-        what: What::Part(BoxedPart::new(rt.alloc(), part(rt.alloc(), b"output")?)?),
-    };
-    let copy = source.try_clone(rt.alloc())?;
-    assert_eq!(rt; copy.push, 3);
-    assert_eq!(rt; copy.index, 1);
-    match (&source.what, &copy.what) {
-        (What::Part(a), What::Part(b)) => assert!(rt; is_same_part(a.as_part(), b.as_part())),
-        _ => assert!(rt; false),
-    }
-    let cut = Item {
-        push: 3,
-        index: 2,
-        what: What::Cut(CutReason::Stream(9)),
-    };
-    match cut.try_clone(rt.alloc())?.what {
-        What::Cut(reason) => assert_eq!(rt; reason, CutReason::Stream(9)),
-        _ => assert!(rt; false),
-    }
     Ok(())
 }
 
@@ -247,14 +220,20 @@ fn pages_give_their_items(rt: HostRuntime) -> Result<(), Fail> {
     Ok(())
 }
 
-/// A list leaves its block with its items in their order, and memory may be refused for the block.
+/// A list leaves its block with its items in their order, and may be put into it again; memory may be refused for the
+/// block.
 #[test]
 fn lists_in_blocks(rt: HostRuntime) -> Result<(), Fail> {
     let mut items = Vec::new(rt.alloc());
     for item in 0..5u64 {
         items.push(item)?;
     }
-    let boxed = BoxedSeq::new(rt.alloc(), Seq::from_vec(items))?;
+    let mut boxed = BoxedSeq::new(rt.alloc(), Seq::from_vec(items))?;
+    assert_eq!(rt; boxed.as_slice(), &[0, 1, 2, 3, 4][..]);
+    let taken = boxed.take();
+    assert!(rt; boxed.as_slice().is_empty());
+    assert_eq!(rt; taken.as_slice(), &[0, 1, 2, 3, 4][..]);
+    boxed.put(taken);
     assert_eq!(rt; boxed.as_slice(), &[0, 1, 2, 3, 4][..]);
     let list = boxed.into_seq();
     assert_eq!(rt; list.as_slice(), &[0, 1, 2, 3, 4][..]);

@@ -1,7 +1,7 @@
 -- Whatever a client is answered, it has seen no less then, and has all promises that it had.
 use Rattle.std.proofs.Common.{◌≡◌, ℕ, ◌⊎◌, inl, inr, Bool, true, false, List}
 use Rattle.std.proofs.Common.{[], ◌∷◌, ◌++◌, Option, None, Some, ◌+◌, Result, Ok, Err}
-use Rattle.std.proofs.Common.{append_assoc, append-nil, ap, arith, sym, ◌∙◌, subst}
+use Rattle.std.proofs.Common.{append_assoc, append-nil, ap, arith, refl, sym, ◌∙◌, subst}
 use Rattle.std.specs.Prelude.{IfOk, MatchResult}
 use mathlib.Core.List.{IsPrefix}
 use Rattle.http.specs.declared.request.Request.{Request}
@@ -68,6 +68,16 @@ is_as_late client = record { seen = ([], append-nil client.history); grows = as_
 
 same_later : {A : Type 0} (before after : KeptSeen A) → after ≡ before → IsLater before after
 same_later before after is = subst (λ c. IsLater before c) (sym is) (is_as_late before)
+
+-- what is said, and changes nothing, or that memory was refused
+pub said_or_lacks : {A : Type 0} (looks : Bool) (said answer : HttpAnswer A) (client : KeptSeen A)
+    → (answer ≡ said) ⊎ (answer ≡ Refused NoMemory) → OrLacks looks (IsSaid said) client answer client
+said_or_lacks looks said answer client (inl is) = inl (is, refl)
+said_or_lacks looks said answer client (inr none) = inr (record {
+  refused = none;
+  earlier = is_as_late client;
+  same = λ _. refl;
+})
 
 -- whose request came, and who saw what was promised, has seen what it had seen
 come_later : {A : Type 0} (first : RepositoryOf A) (before after : KeptSeen A) → CatchesUp first before after →

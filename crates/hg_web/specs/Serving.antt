@@ -11,7 +11,7 @@ use Rattle.http_server.specs.declared.state.State.TheVariants.{Aborted, Open}
 use Rattle.http_server.specs.Exchange.{Call, Chain}
 use Rattle.http_server.specs.History.{History, IsDone, IsServed}
 use Rattle.hg_parts.specs.Repository.{Repository}
-use Rattle.hg_types.specs.declared.item.CutReason.TheVariants.{ReadFailed}
+use Rattle.hg_parts.specs.declared.item.CutReason.TheVariants.{ReadFailed}
 use Rattle.hg_push.specs.declared.outcome.Outcome.TheVariants.{Aborted as IsAborted}
 use Rattle.hg_push.specs.declared.outcome.Reason.TheVariants.{Cut, NoMemory}
 use Rattle.hg_push.specs.Reply.{reply_of}

@@ -90,8 +90,8 @@ impl<A: Allocator + Copy> Watched<A> {
 
     /// Adds a draft changeset with that text, and gives its id.
     pub fn put(&mut self, alloc: A, p1: Node, p2: Node, text: &[u8]) -> Option<Node> {
-        let entry = entry_of(alloc, p1, p2, text).ok()?;
-        let node = add(&mut self.log, &self.phases, &entry)?;
+        let mut entry = entry_of(alloc, p1, p2, text).ok()?;
+        let node = add(&mut self.log, &self.phases, &mut entry)?;
         register_next(&mut self.phases, &self.log, Phase::Draft).ok()?;
         Some(node)
     }
@@ -133,7 +133,7 @@ fn entry_of<A: Allocator + Copy>(
 fn add<A: Allocator + Copy>(
     log: &mut Changelog<A>,
     phases: &Phases<A>,
-    entry: &Entry<A>,
+    entry: &mut Entry<A>,
 ) -> Option<Node>
     requires { AreFor log.old.rows phases.now.current }
     ensures more { IsPrefix log.old.rows log.new.rows }

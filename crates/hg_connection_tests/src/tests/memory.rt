@@ -327,21 +327,21 @@ fn connected_thrice<R: RandomSource + Wait + Abort, G: Probe>(
     }
 }
 
-/// Memory is refused at the take of A's second part, in reading it; the queue has room for all items. A is told
-/// so, and its third part and its mark are dropped by the answer to B, which is done as without A; so is the
-/// child that the client of B pushes.
+/// Memory is refused at the take of A's first part, for the page in which parts are staged: they were read before. The
+/// queue has room for all items. A is told so, and its other parts and its mark are dropped by the answer to B, which
+/// is done as without A; so is the child that the client of B pushes.
 #[test]
 fn memory_is_refused_at_a_take(rt: HostRuntime) -> Result<(), Fail> {
     let heap = LocalHeap::new(rt.alloc(), 1 << 16)?;
     let mut probe = Filler {
         heap: &heap,
         blocks: Vec::new(rt.alloc()),
-        before: 2,
+        before: 1,
         takes: 0,
     };
     let told = connected_thrice(&rt, &heap, &mut probe);
     let takes = probe.takes;
     drop(probe);
-    assert_eq!(rt; (told, takes), (Some((2, 2 * ROOT_REPORT)), 2));
+    assert_eq!(rt; (told, takes), (Some((2, 2 * ROOT_REPORT)), 1));
     Ok(())
 }

@@ -6,11 +6,11 @@ use super::*;
 use hg_connection::{
     BundleEnd, Inbox, Next, Sending, Served, fault_of, mark, next_bundle, receive_kept,
 };
+use hg_parts::CutReason;
 use hg_push::{OpenFault, Outcome, Reason};
 use hg_serve::Answer;
 use hg_stream::Unbundler;
 use hg_stream::laws::streams_are_settled_once;
-use hg_types::CutReason;
 
 // How a bundle ended, and what became of its reply: each of four with each of three. Result: no fault where
 // both are whole; that of the bundle, where it has one, whatever became of the reply; else that of the reply.

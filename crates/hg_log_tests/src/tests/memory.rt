@@ -23,8 +23,8 @@ fn has_rows<A: Allocator>(log: &Changelog<A>, rows: &[Given]) -> bool {
     all
 }
 
-/// Puts changesets into a log, their deltas in a heap of their own, and copies it, until memory is refused. A
-/// refused row leaves the rows before it.
+/// Puts changesets into a log, their deltas in a heap of their own, in which the texts stay that these carry whole,
+/// and copies it, until memory is refused. A refused row leaves the rows before it.
 fn fill<'h>(
     heap: &'h LocalHeap,
     deltas: &'h LocalHeap,
@@ -128,9 +128,14 @@ fn no_memory_for_looking_and_cutting(rt: HostRuntime) -> Result<(), Fail> {
     Ok(())
 }
 
+/// What two heaps have given.
+fn used(heap: &LocalHeap, deltas: &LocalHeap) -> usize {
+    heap.used().saturating_add(deltas.used())
+}
+
 /// Puts so many rows: a root, its children, whose numbers are multiples of `every`, and a line of all others.
-/// Tells the last row of the line, where each answer was the next number and the heap has given no more than
-/// the texts want and 350 bytes a row, beside 1,024 at first.
+/// Tells the last row of the line, where each answer was the next number and the heaps have given no more than
+/// 350 bytes a row, with its text, beside 1,024 at first.
 fn put_many<'h>(
     heap: &'h LocalHeap,
     deltas: &'h LocalHeap,
@@ -150,7 +155,7 @@ fn put_many<'h>(
         let given = if number == 0 { root } else { child };
         match put(deltas, log, given) {
             Ok(Added::New(rev))
-                if rev == number && heap.used() <= 1024 + 350 * (rev as usize + 1) => {}
+                if rev == number && used(heap, deltas) <= 1024 + 350 * (rev as usize + 1) => {}
             _ => return None,
         }
         if number % every != 0 {
@@ -185,11 +190,15 @@ fn many_are_told<'h>(heap: &'h LocalHeap, log: &Changelog<&'h LocalHeap>) -> boo
     all && heap.used() == used
 }
 
-/// A copy of them takes no more than the log did.
-fn a_copy_takes_as_much<'h>(heap: &'h LocalHeap, log: &Changelog<&'h LocalHeap>) -> bool {
-    let used = heap.used();
+/// A copy of them takes no more than the log did, with its texts.
+fn a_copy_takes_as_much<'h>(
+    heap: &'h LocalHeap,
+    deltas: &'h LocalHeap,
+    log: &Changelog<&'h LocalHeap>,
+) -> bool {
+    let before = used(heap, deltas);
     match log.try_clone(heap) {
-        Ok(copy) => copy.head_count() == 600 && heap.used() <= used.saturating_mul(2),
+        Ok(copy) => copy.head_count() == 600 && used(heap, deltas) <= before.saturating_mul(2),
         Err(_) => false,
     }
 }
@@ -202,14 +211,14 @@ fn a_long_text_comes_and_goes<'h>(
     text: &[u8],
 ) -> bool {
     let long = changeset(id_of(&NULL, &NULL, text), NULL, NULL, text);
-    let before = heap.used();
+    let before = used(heap, deltas);
     let is_new = put(deltas, log, long) == Ok(Added::New(1200));
-    let with_text = heap.used();
+    let with_text = used(heap, deltas);
     let is_copied = log.try_clone(heap).is_ok();
     if log.len() > 600 {
         log.cut_back(600);
     }
-    let is_back = log.len() == 600 && heap.used().saturating_add(200_000) <= with_text;
+    let is_back = log.len() == 600 && used(heap, deltas).saturating_add(200_000) <= with_text;
     is_new && is_copied && with_text <= before.saturating_add(204_800) && is_back
 }
 
@@ -242,7 +251,7 @@ fn enough_memory(rt: HostRuntime) -> Result<(), Fail> {
     let mut log = Changelog::new(&heap, state, Limits::standard());
     all = heap.used() == 0 && all;
     all = put_many(&heap, &deltas, &mut log, 1200, 2) == Some(1199) && all;
-    all = many_are_told(&heap, &log) && a_copy_takes_as_much(&heap, &log) && all;
+    all = many_are_told(&heap, &log) && a_copy_takes_as_much(&heap, &deltas, &log) && all;
     all = a_long_text_comes_and_goes(&heap, &deltas, &mut log, &text) && all;
     assert!(rt; all);
     Ok(())
@@ -381,7 +390,7 @@ fn looks_want_little(
 fn memory_of_rising_size_for_looking(rt: HostRuntime) -> Result<(), Fail> {
     let state = RandomState::new(&rt)?;
     let heap = LocalHeap::new(rt.alloc(), 1 << 16)?;
-    let deltas = LocalHeap::new(rt.alloc(), 1024)?;
+    let deltas = LocalHeap::new(rt.alloc(), 1 << 13)?;
     assert!(rt; looks_want_little(rt.alloc(), &heap, &deltas, state));
     Ok(())
 }

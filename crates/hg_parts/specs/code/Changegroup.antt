@@ -1,5 +1,6 @@
 -- What adding the entries of a changegroup, by code, gives and leaves.
-use Rattle.std.specs.Prelude.{◌≡◌, ◌⊎◌, MatchResult, ℕ, Result, Ok, Err}
+use Rattle.std.specs.Prelude.{◌≡◌, ◌⊎◌, MatchResult, ℕ, List, map, Result, Ok, Err}
+use Rattle.hg_types.specs.declared.entry.Entry.{Entry}
 use Rattle.hg_log.specs.declared.add.AddFault.{AddFault}
 use Rattle.hg_log.specs.declared.add.AddFault.TheVariants.{NoMemory}
 use Rattle.hg_parts.specs.declared.store.Store.{Store}
@@ -26,3 +27,7 @@ grown_of store = record { rows = store.log.rows; phases = store.phases.current.p
 pub record AreOthersSame {A : Type 0} (old new : Store A) : Type 0 where
   pub markers : new.markers ≡ old.markers
   pub bookmarks : new.bookmarks ≡ old.bookmarks
+
+-- entries of the same ids, in their order, whatever their deltas are
+abbrev pub AreOfSameIds : {A : Type 0} → List (Entry A) → List (Entry A) → Type 0
+AreOfSameIds old new = map (λ entry. entry.node) new ≡ map (λ entry. entry.node) old

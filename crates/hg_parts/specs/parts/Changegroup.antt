@@ -23,7 +23,6 @@ use Rattle.hg_parts.specs.declared.prepared.Reading.{Reading}
 use Rattle.hg_parts.specs.declared.prepared.Reading.TheVariants.{ChangeGroup, Malformed}
 use Rattle.hg_parts.specs.declared.source.Source.{Source}
 use Rattle.hg_parts.specs.declared.source.Source.TheVariants.{Push, Seed}
-use Rattle.hg_parts.specs.declared.refusal.Refusal.{Refusal}
 use Rattle.hg_parts.specs.declared.refusal.Refusal.TheVariants.{BadPart, BadChangeset}
 use Rattle.hg_parts.specs.Repository.{Repository}
 use Rattle.hg_parts.specs.Handled.{Handled, Outcome}

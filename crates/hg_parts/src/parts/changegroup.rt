@@ -27,7 +27,7 @@ ghost use Rattle.hg_parts.specs.Store.{repository_of, IsSound, IsGrown};
 ghost use Rattle.hg_parts.specs.parts.Changegroup.{target_of, version_of, phase_for, grown_by, add_each};
 ghost use Rattle.hg_parts.specs.parts.Changegroup.{revs_of, phases_after, result_text, reply_to_group};
 ghost use Rattle.hg_parts.specs.parts.Changegroup.{read_changegroup, handle_group};
-ghost use Rattle.hg_parts.specs.code.Changegroup.{grown_of, refusal_for, AddGives, AreOthersSame};
+ghost use Rattle.hg_parts.specs.code.Changegroup.{grown_of, refusal_for, AddGives, AreOfSameIds, AreOthersSame};
 
 use crate::params::value_of;
 use crate::prepared::Reading;
@@ -66,23 +66,24 @@ pub fn read_changegroup<A: Allocator + Copy>(
 }
 
 /// Adds the changesets that were read, and gives the reply. Refused is the first that the changelog doesn't
-/// add (`BadChangeset`).
+/// add (`BadChangeset`). The changelog may have taken their deltas over.
 pub fn handle_group<A: Allocator + Copy>(
     alloc: A,
     store: &mut Store<A>,
     turn: Turn,
     part: &Part<A>,
     target: Phase,
-    entries: &[Entry<A>],
+    entries: &mut [Entry<A>],
 ) -> Result<Option<Part<A>>, Refusal<A>>
     requires { IsSound turn.settings store.old }
     ensures { Handles turn
         (handle_group turn.source (repository_of turn.settings store.old) turn.replying turn.place part.now
-        target entries.now)
+        target entries.old)
         store.old store.new result }
 {
     let t = phase_for(turn.source, &turn.settings, target);
     let before = store.log.head_count();
+    make_room(store, entries.len());
     match add_each(store, &turn.settings, t, entries) {
         Err(fault) => return Err(refusal_for(turn.place, fault)),
         Ok(()) => (),
@@ -103,6 +104,15 @@ pub fn handle_group<A: Allocator + Copy>(
         store.log.head_count(),
     )?;
     Ok(reply)
+}
+
+/// Makes room in the changelog for so many changesets, where there are several.
+fn make_room<A: Allocator + Copy>(store: &mut Store<A>, count: usize)
+    ensures { store.new ≡ store.old }
+{
+    if count > 1 {
+        store.log.reserve(count);
+    }
 }
 
 /// The refusal of an entry that is not added.
@@ -144,22 +154,23 @@ fn advance_group<A: Allocator + Copy>(
     }
 }
 
-/// Adds the entries in order, and registers each new row.
+/// Adds the entries in order, and registers each new row. Their ids stay as they were.
 fn add_each<A: Allocator + Copy>(
     store: &mut Store<A>,
     settings: &Settings,
     t: Phase,
-    entries: &[Entry<A>],
+    entries: &mut [Entry<A>],
 ) -> Result<(), AddFault>
     requires { IsSound settings.now store.old }
     ensures grown { IsGrown store.old store.new }
     ensures sound { OnOk result (IsSound settings.now store.new) }
     ensures others { OnOk result (AreOthersSame store.old store.new) }
     ensures gives { AddGives
-        (add_each settings.now.limits t entries.now (grown_of store.old)) (grown_of store.new) result }
+        (add_each settings.now.limits t entries.old (grown_of store.old)) (grown_of store.new) result }
+    ensures ids { OnOk result (AreOfSameIds entries.old entries.new) }
 {
-    for entry in entries {
-        add_one(store, settings, t, entry)?;
+    'entries: for number in 0..entries.len() {
+        add_one(store, settings, t, &mut entries[number])?;
     }
     Ok(())
 }
@@ -169,15 +180,16 @@ fn add_one<A: Allocator + Copy>(
     store: &mut Store<A>,
     settings: &Settings,
     t: Phase,
-    entry: &Entry<A>,
+    entry: &mut Entry<A>,
 ) -> Result<(), AddFault>
     requires { IsSound settings.now store.old }
     ensures grown { IsGrown store.old store.new }
     ensures sound { OnOk result (IsSound settings.now store.new) }
     ensures others { OnOk result (AreOthersSame store.old store.new) }
     ensures gives { AddGives
-        (grown_by t store.old.phases.current.phases (answer_of store.old.log entry.now))
+        (grown_by t store.old.phases.current.phases (answer_of store.old.log entry.old))
         (grown_of store.new) result }
+    ensures id { entry.new.node ≡ entry.old.node }
 {
     match store.log.add(entry) {
         Err(fault) => Err(fault),

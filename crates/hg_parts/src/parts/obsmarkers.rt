@@ -10,13 +10,14 @@ ghost use Rattle.hg_parts.specs.Replies.{reply_where, IsReply};
 ghost use Rattle.hg_parts.specs.Store.{repository_of, IsSound};
 ghost use Rattle.hg_parts.specs.parts.Obsmarkers.{reply_to_markers, read_obsmarkers, handle_markers};
 
+use crate::copies::clone_of;
 use crate::prepared::Reading;
 use crate::refusal::Refusal;
 use crate::replies::reply_part;
 use crate::store::Store;
 use crate::turn::Turn;
 use hg_obs::{Marker, MarkerFault, markers_stay_lawful, read_markers};
-use hg_types::{BoxedSeq, NoMemory, Part};
+use hg_types::{BoxedSeq, NoMemory, Part, TryClone};
 use std::alloc::{Allocator, Global};
 use std::marker::Model;
 
@@ -37,6 +38,13 @@ impl<A: Allocator> Model for MarkerData<A> {
     ghost view = { λ m. m.list };
 
     ghost invariant = { λ m. AllByRecursion IsMarker m.list };
+}
+
+impl<A: Allocator + Copy> TryClone<A> for MarkerData<A> {
+    fn try_clone(&self, alloc: A) -> Result<Self, NoMemory> {
+        let list = clone_of(alloc, &self.list)?;
+        Ok(MarkerData { list })
+    }
 }
 
 /// Reads the payload. One that is no marker data is a fault of the format.

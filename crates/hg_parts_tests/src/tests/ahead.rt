@@ -1,10 +1,15 @@
 //! Parts whose texts are hashed before their turn.
 
 use super::*;
-use hg_parts::hash_ahead;
+use hg_parts::{hash_ahead, hash_several, hash_several_of_each};
+use hg_types::TryClone;
 
 /// What comes of a prepared part on a store. Where it is refused, it is gone back from.
-fn came_of_prepared(alloc: Global, held: &mut Held<Global>, prepared: Prepared<Global>) -> Came {
+pub fn came_of_prepared(
+    alloc: Global,
+    held: &mut Held<Global>,
+    prepared: Prepared<Global>,
+) -> Came {
     let savepoint = held.store.savepoint();
     let turn = Turn {
         settings: held.settings,
@@ -12,7 +17,7 @@ fn came_of_prepared(alloc: Global, held: &mut Held<Global>, prepared: Prepared<G
         replying: true,
         place: 0,
     };
-    match handle_prepared(alloc, &mut held.store, turn, prepared) {
+    match handle_prepared(alloc, &mut held.store, turn, prepared, &mut Spent::new()) {
         Ok(reply) => replied(&reply),
         Err(refusal) => {
             held.store.back_to(savepoint);
@@ -23,7 +28,8 @@ fn came_of_prepared(alloc: Global, held: &mut Held<Global>, prepared: Prepared<G
 
 /// A part, prepared when its texts were hashed ahead.
 fn prepared_ahead(alloc: Global, part: Part) -> Result<Prepared, NoMemory> {
-    prepare(alloc, hash_ahead(BoxedPart::new(alloc, part)?))
+    let part = BoxedPart::new(alloc, part)?;
+    prepare(alloc, hash_ahead(part))
 }
 
 /// What comes of it on a store.
@@ -75,6 +81,40 @@ fn other_parts_stay_as_they_are(rt: HostRuntime) -> Result<(), Fail> {
     ] {
         assert!(rt; is_kept(rt.alloc(), kind, b"\0\0\0\x68 short")?);
         assert!(rt; is_kept(rt.alloc(), kind, b"")?);
+    }
+    Ok(())
+}
+
+/// So many of its texts have a hash, and it is the part that was sent.
+fn has_hashes(part: &Part, count: usize, sent: &Part) -> bool {
+    let last_is_hashed = count == 0 || part.payload.hashed(count - 1).is_some();
+    last_is_hashed
+        && part.payload.hashed(count).is_none()
+        && part.payload.as_slice() == sent.payload.as_slice()
+}
+
+// Changegroups of one changeset and of six, and an `output` as long. Result: of the six each has a hash, the others have
+// none.
+#[test]
+fn several_texts_are_hashed(rt: HostRuntime) -> Result<(), Fail> {
+    let six = [
+        root(ROOT),
+        root(ROOT),
+        root(ROOT),
+        root(ROOT),
+        root(ROOT),
+        root(ROOT),
+    ];
+    let one = group(rt.alloc(), &six[..1])?;
+    let many = group(rt.alloc(), &six)?;
+    let (key, value) = (b"version".as_slice(), b"02".as_slice());
+    let other = part(rt.alloc(), b"output", key, value, many.payload.as_slice())?;
+    for (sent, count) in [(&one, 0), (&many, 6), (&other, 0)] {
+        let boxed = BoxedPart::new(rt.alloc(), sent.try_clone(rt.alloc())?)?;
+        assert!(rt; has_hashes(&hash_several(boxed).into_part(), count, sent));
+        let mut parts = [sent.try_clone(rt.alloc())?];
+        hash_several_of_each(&mut parts);
+        assert!(rt; has_hashes(&parts[0], count, sent));
     }
     Ok(())
 }

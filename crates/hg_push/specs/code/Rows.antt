@@ -3,7 +3,7 @@ use Rattle.std.specs.Prelude.{ℕ, Bool, true, false, ◌≡◌, ◌≢◌, ◌=
 use Rattle.std.specs.Prelude.{position, slice_index_or, Some, Result, Ok, Err}
 use Rattle.std.specs.List.{AllByRecursion}
 use Rattle.hg_types.specs.declared.part.Part.{Part}
-use Rattle.hg_types.specs.declared.item.Taken.{Taken}
+use Rattle.hg_parts.specs.declared.item.Taken.{Taken}
 use Rattle.hg_parts.specs.declared.prepared.Prepared.{Prepared}
 use Rattle.hg_push.specs.declared.outcome.Reason.{Reason}
 use Rattle.hg_push.specs.declared.outcome.Reason.TheVariants.{Refused, Cut, WrongIndex, NoMemory}

@@ -16,7 +16,7 @@ fn put_clone<A: Allocator + Copy>(
 ) -> bool {
     match part {
         Ok(part) => match a_part(push, index, part).try_clone(alloc) {
-            Ok(item) => !book.step(item),
+            Ok(item) => !book.step(item, &mut Spent::new()),
             Err(NoMemory) => false,
         },
         Err(NoMemory) => false,

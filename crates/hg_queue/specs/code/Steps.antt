@@ -1,6 +1,6 @@
 -- What each kind of step makes of the view of the seat that takes it.
 use Rattle.std.specs.Prelude.{◌≡◌, ℕ, ◌+◌, Bool, List, [], ◌∷◌, ◌++◌, Some, None}
-use Rattle.hg_types.specs.declared.item.Item.{Item}
+use Rattle.hg_parts.specs.declared.item.Item.{Item}
 use Rattle.hg_queue.specs.declared.view.Claim.{Claim}
 use Rattle.hg_queue.specs.declared.view.TakerView.{TakerView}
 use Rattle.hg_queue.specs.declared.view.PutterView.{PutterView}

@@ -6,7 +6,7 @@ ghost use Rattle.hg_types.specs.Limits.{IsAllowed};
 use super::pushes::{CAPS, CHILD, LOST, MARKED, NAMED, PUBLISHED, ROOT, Recipe, SEED, all_made};
 use super::*;
 use hg_log::AddFault;
-use hg_repo::{Prepared, prepare};
+use hg_repo::{Prepared, Spent, prepare};
 use hg_types::{Pages, Phase};
 
 static SEEDS: [Recipe; 1] = [SEED];
@@ -35,7 +35,8 @@ fn prepared<A: Allocator + Copy>(
 ) -> Result<Pages<Prepared<A>, A>, NoMemory> {
     let mut list = Pages::new(alloc);
     for part in all_made(alloc, push)?.into_vec() {
-        list.push(prepare(alloc, BoxedPart::new(alloc, part)?)?)?;
+        let part = BoxedPart::new(alloc, part)?;
+        list.push(prepare(alloc, part)?)?;
     }
     Ok(list)
 }
@@ -59,7 +60,7 @@ fn ran<A: Allocator + Copy>(
     if prepared.len() > 1_000 {
         return Came::Wrong;
     }
-    let answer = repo.run_prepared(Source::Push, prepared);
+    let answer = repo.run_prepared(Source::Push, prepared, &mut Spent::new());
     came_from(&answer, repo.is_same(copy))
 }
 

@@ -2,7 +2,7 @@
 
 use super::*;
 use hg_log::node_id;
-use hg_repo::prepare;
+use hg_repo::{Spent, prepare};
 use hg_types::{Pages, Short};
 
 /// As many parts as a push may have.
@@ -37,10 +37,15 @@ fn are_run(alloc: Global, state: RandomState) -> Result<bool, NoMemory> {
 fn are_run_prepared(alloc: Global, state: RandomState) -> Result<bool, NoMemory> {
     let mut prepared = Pages::new(alloc);
     for part in replying_parts(alloc)?.into_vec() {
-        prepared.push(prepare(alloc, BoxedPart::new(alloc, part)?)?)?;
+        let part = BoxedPart::new(alloc, part)?;
+        prepared.push(prepare(alloc, part)?)?;
     }
     let mut repo = Repo::new(alloc, settings(), state);
-    Ok(prepared.len() <= PARTS && are_answered(&repo.run_prepared(Source::Push, prepared)))
+    if prepared.len() > PARTS {
+        return Ok(false);
+    }
+    let answer = repo.run_prepared(Source::Push, prepared, &mut Spent::new());
+    Ok(are_answered(&answer))
 }
 
 #[test]

@@ -2,7 +2,7 @@
 //! prepared.
 
 use super::*;
-use hg_repo::{Prepared, prepare};
+use hg_repo::{Prepared, Spent, prepare};
 use hg_types::{Pages, Short};
 
 /// The id of the changeset of the empty text without parents.
@@ -60,7 +60,8 @@ fn prepared_list<A: Allocator + Copy>(
 ) -> Result<Pages<Prepared<A>, A>, NoMemory> {
     let mut list = Pages::new(alloc);
     for part in parts.into_vec() {
-        list.push(prepare(alloc, BoxedPart::new(alloc, part)?)?)?;
+        let part = BoxedPart::new(alloc, part)?;
+        list.push(prepare(alloc, part)?)?;
     }
     Ok(list)
 }
@@ -76,7 +77,7 @@ fn answer_to_prepared<A: Allocator + Copy>(
         return Some(false);
     }
     let mut repo = Repo::new(alloc, settings(), state);
-    let answer = repo.run_prepared(Source::Push, prepared);
+    let answer = repo.run_prepared(Source::Push, prepared, &mut Spent::new());
     let told = is_expected(&answer, expected);
     drop(answer);
     drop(repo);

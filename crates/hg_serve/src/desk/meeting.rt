@@ -16,7 +16,7 @@ use crate::probe::Probe;
 use crate::question::Question;
 use hg_push::Outcome;
 use hg_queue::{PartQueue, Visitor};
-use hg_repo::{Done, Refusal};
+use hg_repo::{Done, Refusal, Spent};
 use std::alloc::Allocator;
 use std::sync::Wait;
 
@@ -43,6 +43,7 @@ impl<J: Naming<A>, A: Allocator + Copy> Desk<J, A> {
         rt: &R,
         queue: &PartQueue<A>,
         ended: Awaiting<J, A>,
+        spent: &mut Spent<A>,
         probe: &mut G,
     ) -> (Answer<A>, usize, Client<J, A>)
         requires queue { IsQueueIn J.table J.capacity queue.now × (J.capacity ≤ 65536) }
@@ -52,7 +53,7 @@ impl<J: Naming<A>, A: Allocator + Copy> Desk<J, A> {
             result.1 }
     {
         let push = ended.push;
-        let (answer, client) = self.answer(rt, queue, ended, probe);
+        let (answer, client) = self.answer(rt, queue, ended, spent, probe);
         let rests = self.rests(push, &answer.outcome);
         (answer, rests, client)
     }

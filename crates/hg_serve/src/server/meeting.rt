@@ -13,6 +13,7 @@ use crate::desk::Answer;
 use crate::naming::Naming;
 use crate::probe::{Point, Probe};
 use crate::question::Question;
+use hg_repo::Spent;
 use std::alloc::Allocator;
 use std::sync::Wait;
 
@@ -30,9 +31,10 @@ impl<J: Naming<A>, A: Allocator + Copy> Server<J, A> {
         ensures rests { RestsOn run_push J.first (newest_first result.2) ended.push result.0.outcome
             result.1 }
     {
+        let mut spent = Spent::new();
         let answered = self
             .lock(rt, &mut ended.pauses)
-            .answer_resting(rt, &self.queue, ended, probe);
+            .answer_resting(rt, &self.queue, ended, &mut spent, probe);
         probe.at(Point::Answered);
         answered
     }

@@ -63,7 +63,7 @@ fn put_behind_a_turn<J: Naming<Global>, R: Wait>(
     rt: &R,
     server: &Server<J>,
     sender: &mut Sender<J>,
-    part: BoxedPart,
+    part: SentPart,
 ) -> bool {
     let turned = server.turn(rt, &mut NoProbe);
     let tried = server.try_put(rt, sender, part);
@@ -92,7 +92,9 @@ fn put_most<J: Naming<Global>, R: Wait + Abort>(
 /// Whether that part comes back, since its push has as many as it may.
 fn is_too_many(tried: &Result<(), PutFault>, payload: &[u8]) -> bool {
     match tried {
-        Err(PutFault::TooMany(part)) => part.as_part().payload.as_slice() == payload,
+        Err(PutFault::TooMany(part)) => part
+            .whole()
+            .is_some_and(|part| part.payload.as_slice() == payload),
         _ => false,
     }
 }

@@ -23,12 +23,17 @@ fn push<J: Naming<Global>, R: Wait + Abort>(
     rt: &R,
     server: &Server<J>,
     client: Client<J>,
-    part: BoxedPart,
+    part: SentPart,
 ) -> (Answer, usize, Client<J>) {
     let mut sender = open(rt, server, client);
     put(rt, server, &mut sender, part);
     let ended = server.end(rt, sender, &mut NoProbe);
     server.answer_resting(rt, ended, &mut NoProbe)
+}
+
+/// A part that was read ahead.
+fn ahead(part: BoxedPart) -> SentPart {
+    SentPart::read_ahead(part)
 }
 
 /// Two clients push a root each, and the first a check that fails; a third one looks before, between and
@@ -40,9 +45,9 @@ pub fn looks<J: Naming<Global>, R: Wait + Abort>(
 ) -> Vec<Client<J>> {
     let mut reader = client(rt, server);
     let none = server.look_resting(rt, &mut reader, &Count);
-    let (of_a, rests_a, a) = push(rt, server, client(rt, server), a_root(rt, alloc));
+    let (of_a, rests_a, a) = push(rt, server, client(rt, server), ahead(a_root(rt, alloc)));
     let one = server.look_resting(rt, &mut reader, &Count);
-    let (of_b, rests_b, mut b) = push(rt, server, client(rt, server), b_root(rt, alloc));
+    let (of_b, rests_b, mut b) = push(rt, server, client(rt, server), ahead(b_root(rt, alloc)));
     let no_heads = part(rt, alloc, b"CHECK:HEADS", &NULL);
     let (raced, rests_raced, mut a) = push(rt, server, a, no_heads);
     server.meet(rt, &mut b, &mut a);

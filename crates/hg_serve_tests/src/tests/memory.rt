@@ -88,8 +88,8 @@ fn changegroup<A: Allocator + Copy, R: Abort>(
     alloc: A,
     node: [u8; 20],
     parent: [u8; 20],
-) -> BoxedPart<A> {
-    made(rt, try_changegroup(alloc, node, parent))
+) -> SentPart<A> {
+    SentPart::as_it_came(made(rt, try_changegroup(alloc, node, parent)))
 }
 
 /// The changeset without text and parents, and the child of it without text.

@@ -8,7 +8,7 @@ fn put_behind<J: Naming<Global>, R: Wait + Abort>(
     rt: &R,
     server: &Server<J>,
     sender: &mut Sender<J>,
-    part: BoxedPart,
+    part: SentPart,
 ) {
     match server.try_put(rt, sender, part) {
         Err(PutFault::Full(back)) => {

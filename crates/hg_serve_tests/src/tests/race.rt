@@ -2,8 +2,10 @@
 //! part of each checks that there is no changeset, the second is a changegroup of one root.
 
 use super::*;
+use hg_parts::{Item, What};
 use hg_push::{Book, Standing};
-use hg_types::{Item, Param, Short, What};
+use hg_repo::Spent;
+use hg_types::{Param, Short};
 
 /// The ids of the changesets without parents whose text is `a`, and `b`: SHA-1 of 40 zeros and the letter.
 const A_ROOT: [u8; 20] = [
@@ -49,7 +51,7 @@ pub fn group<R: Abort>(rt: &R, alloc: Global, payload: &[u8]) -> BoxedPart {
 }
 
 fn no_heads<R: Abort>(rt: &R, alloc: Global) -> BoxedPart {
-    part(rt, alloc, b"CHECK:HEADS", &NULL)
+    boxed(rt, alloc, b"CHECK:HEADS", &NULL)
 }
 
 pub fn a_root<R: Abort>(rt: &R, alloc: Global) -> BoxedPart {
@@ -81,7 +83,7 @@ fn put_next<J: Naming<Global>, R: Wait + Abort>(
     sender: &mut Sender<J>,
     part: BoxedPart,
 ) {
-    match server.try_put(rt, sender, part) {
+    match server.try_put(rt, sender, SentPart::read_ahead(part)) {
         Ok(()) => {}
         Err(PutFault::Full(back)) => {
             assert!(rt; server.turn(rt, &mut NoProbe));
@@ -122,6 +124,11 @@ fn two_roots_through_the_server(rt: HostRuntime) -> Result<(), Fail> {
     Ok(())
 }
 
+/// A part that is as it came.
+fn sent(part: BoxedPart) -> What {
+    What::Part(SentPart::as_it_came(part))
+}
+
 /// The race through a book.
 /// `two_roots_through_a_book`, `two_roots_through_the_server`: A and B check with Z that there is
 /// no changeset, and bring one each, without parents, whose text is `a`, and `b`: A0 B0 A1 B1, B's
@@ -134,16 +141,16 @@ fn two_roots_through_a_book(rt: HostRuntime) -> Result<(), Fail> {
     let mut book = Book::new(alloc, Repo::new(alloc, settings(0, 1_024), state(&rt)));
     let opened = book.open() == Ok(0) && book.open() == Ok(1);
     let items = [
-        (0, 0, What::Part(no_heads(&rt, alloc))),
-        (1, 0, What::Part(no_heads(&rt, alloc))),
-        (0, 1, What::Part(a_root(&rt, alloc))),
-        (1, 1, What::Part(b_root(&rt, alloc))),
+        (0, 0, sent(no_heads(&rt, alloc))),
+        (1, 0, sent(no_heads(&rt, alloc))),
+        (0, 1, sent(a_root(&rt, alloc))),
+        (1, 1, sent(b_root(&rt, alloc))),
         (1, 2, What::End),
         (0, 2, What::End),
     ];
     let mut kept = opened;
     for (push, index, what) in items {
-        kept = !book.step(Item { push, index, what }) && kept;
+        kept = !book.step(Item { push, index, what }, &mut Spent::new()) && kept;
     }
     let told = book.standing(0) == Standing::Aborted && book.standing(1) == Standing::Done;
     let (repo, journal) = book.into_parts();

@@ -73,11 +73,11 @@ fn parts_of<R: Abort>(rt: &R, alloc: Global, thread: u8, turn: u8) -> [BoxedPart
         b"output"
     };
     [
-        part(rt, alloc, b"REPLYCAPS", b""),
-        part(rt, alloc, checked, &NULL),
+        boxed(rt, alloc, b"REPLYCAPS", b""),
+        boxed(rt, alloc, checked, &NULL),
         group(rt, alloc, &group_of(thread, turn)),
-        part(rt, alloc, b"BOOKMARKS", &bookmark_of(thread, turn)),
-        part(rt, alloc, b"OBSMARKERS", &marker_of(thread, turn)),
+        boxed(rt, alloc, b"BOOKMARKS", &bookmark_of(thread, turn)),
+        boxed(rt, alloc, b"OBSMARKERS", &marker_of(thread, turn)),
     ]
 }
 
@@ -104,7 +104,7 @@ fn push_once<J: Naming<Global>, R: Wait + Abort>(
 ) -> Client<J> {
     let mut sender = open(rt, server, client);
     for part in parts_of(rt, alloc, thread, turn) {
-        put(rt, server, &mut sender, part);
+        put(rt, server, &mut sender, SentPart::read_ahead(part));
     }
     let (answer, client) = finish(rt, server, sender);
     assert!(rt; is_done(&answer, 5) || is_checked(turn) && is_race(&answer, 1));

@@ -3,7 +3,7 @@ use Rattle.hg_cgroup.proofs.changeset.read_changesets.Goals as goal
 
 pub loop-entries-init : goal.loop-entries-init
 loop-entries-init g c =
-    rw c.new-entries.ensures.items (rw c.as_slice-rest.ensures (took_none c.args.version c.args.payload.now))
+    rw c.in_ok-entries.ensures.items (rw c.as_slice-rest.ensures (took_none c.args.version c.args.payload.now))
 
 pub loop-entries-preserved : goal.loop-entries-preserved
 loop-entries-preserved g c =

@@ -33,7 +33,7 @@ parts-preserved g c =
       spelled = i.spelled ∙ ap (λ (l : List (Part g.row.A.Denot)). i.taken ++ l) e.part
           ∙ sym (append_assoc i.taken (c.in-Some.part ∷ []) (ready_of c.next_part.new.self));
       put = puts_more c.args.sender.now c.parts.sender c.put.new.sender i.taken c.in-Some.part i.put
-          (rw c.hash_ahead.ensures at c.in-Ok.ensures);
+          (rw c.read_ahead.ensures at c.in-Ok.ensures);
       holds = λ given bytes begun. holds_more c.next_part.new.self given i.taken (c.in-Some.part ∷ []) bytes
           (e.holds (given ++ i.taken) bytes (i.holds given bytes begun));
       state = e.state ∙ i.state;

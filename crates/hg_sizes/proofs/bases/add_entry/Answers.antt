@@ -1,4 +1,4 @@
-use Rattle.std.proofs.Common.{ℕ, List, Option, None, ap, ◌∙◌}
+use Rattle.std.proofs.Common.{ℕ, List, Option, ap, ◌∙◌}
 use Rattle.hg_sizes.specs.Bases.{text_on, with_entry}
 use Rattle.hg_sizes.specs.Weights.{noted}
 use Rattle.hg_sizes.specs.code.Maps.{texts_of}

@@ -1,4 +1,4 @@
-use Rattle.std.proofs.Common.{◌≡◌, ◌≤◌, ◌<◌, ◌+◌, ℕ, sym, subst, arith}
+use Rattle.std.proofs.Common.{◌≤◌, ◌<◌, ℕ, sym, subst, arith}
 use Rattle.hg_sizes.specs.Bases.{base_text, most_unknown, no_texts, unknown_behind}
 use Rattle.hg_sizes.specs.code.Maps.{texts_of}
 use Rattle.hg_sizes.proofs.Known.{counts_first, few_enough, none_left, one_at_most, too_many}

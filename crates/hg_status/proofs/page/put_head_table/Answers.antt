@@ -1,4 +1,4 @@
-use Rattle.std.proofs.Common.{◌∙◌, ap}
+use Rattle.std.proofs.Common.{ap}
 use Rattle.hg_status.specs.Page.{with_head_table, with_rows}
 use Rattle.hg_status.proofs.page.put_head_table.Goals as goal
 

@@ -1,4 +1,4 @@
-use Rattle.std.proofs.Common.{◌≡◌, ◌≤◌, ◌*◌, ◌^◌, ℕ, take}
+use Rattle.std.proofs.Common.{◌≡◌, ◌≤◌, ◌*◌, ◌^◌, take}
 use Rattle.std.specs.List.{sum_by}
 use Rattle.hg_store_tools.specs.ChangesetCount.{changesets_in}
 use Rattle.hg_store_tools.proofs.brought.count_changesets.Given as goal

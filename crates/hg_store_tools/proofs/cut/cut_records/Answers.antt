@@ -1,4 +1,4 @@
-use Rattle.std.proofs.Common.{ap, subst, sym, ℕ}
+use Rattle.std.proofs.Common.{ap, subst}
 use Rattle.hg_store_tools.specs.Cutting.{CutSoFar, StopsSo}
 use Rattle.hg_store_tools.specs.Reading.{IsRestOf}
 use Rattle.hg_store_tools.proofs.Cuts.{cut_ok, from_front, is_cut_at, is_walked, no_place, none_unplaced, not_begun}

@@ -1,7 +1,7 @@
-use Rattle.std.proofs.Common.{◌≡◌, ◌∙◌, ap, sym, arith, List, ℕ, ◌++◌}
-use Rattle.std.proofs.Common.{length, take, drop, ◌-◌}
+use Rattle.std.proofs.Common.{◌∙◌, ap, sym, arith, List, ℕ, ◌++◌}
+use Rattle.std.proofs.Common.{length, take, drop}
 use Rattle.sha1.specs.Sha1.{sha1}
-use Rattle.hg_store_tools.proofs.Indexes.{body_is, differs, front_is, length-marks, magic_is, size_is, told_is}
+use Rattle.hg_store_tools.proofs.Indexes.{body_is, differs, length-marks, magic_is, size_is, told_is}
 use Rattle.hg_store_tools.proofs.index.body_of.Goals as goal
 
 pub returns-then-bytes-clause-none : goal.returns-then-bytes-clause-none

@@ -1,4 +1,3 @@
-use Rattle.std.proofs.Common.{◌≡◌, ◌∙◌, ap, List, ℕ, ◌++◌, append_assoc}
 use Rattle.hg_store_tools.proofs.Indexes.{three_more}
 use Rattle.hg_store_tools.proofs.index.put_mark.Goals as goal
 

@@ -1,4 +1,3 @@
-use Rattle.std.proofs.Common.{◌≡◌}
 use Rattle.hg_store_tools.proofs.Indexes.{marks_all, marks_more}
 use Rattle.hg_store_tools.proofs.index.read_marks.Goals as goal
 

@@ -1,4 +1,3 @@
-use Rattle.std.proofs.Common.{subst}
 use Rattle.hg_store_tools.proofs.Walks.{has_head_of}
 use Rattle.hg_store_tools.proofs.marks.first_start.Goals as goal
 

@@ -1,4 +1,4 @@
-use Rattle.std.proofs.Common.{ℕ, ◌-◌, arith}
+use Rattle.std.proofs.Common.{◌-◌, arith}
 use Rattle.hg_store_tools.proofs.Walks.{split_at}
 use Rattle.hg_store_tools.proofs.marks.last_until.Goals as goal
 

@@ -1,4 +1,4 @@
-use Rattle.std.proofs.Common.{◌≡◌, ◌<◌, arith, List, ℕ}
+use Rattle.std.proofs.Common.{arith}
 use Rattle.hg_store_tools.proofs.Walks.{lead_of, lead_then, walking_more, walking_none}
 use Rattle.hg_store_tools.proofs.marks.marks_from.Goals as goal
 

@@ -1,10 +1,7 @@
-use Rattle.std.proofs.Common.{◌≡◌, ◌∙◌, List, ap, subst, sym}
-use Rattle.hg_store.specs.Entries.{Entry}
-use Rattle.hg_store.specs.Head.{head_for, version_of}
+use Rattle.std.proofs.Common.{◌∙◌, ap, subst, sym}
+use Rattle.hg_store.specs.Head.{head_for}
 use Rattle.hg_store.specs.declared.head.Head.{Head}
 use Rattle.hg_store.specs.declared.head.Setup.{Setup}
-use Rattle.hg_store.specs.declared.head.Version.{Version}
-use Rattle.hg_store.specs.declared.head.Version.TheVariants.{First, Second}
 use Rattle.hg_store_tools.specs.Filling.{HasRecords}
 use Rattle.hg_store_tools.specs.Visiting.{Visits}
 use Rattle.hg_store_tools.specs.declared.fault.StoreEnd.{StoreEnd}

@@ -1,4 +1,4 @@
-use Rattle.std.proofs.Common.{◌≡◌, ap, Err}
+use Rattle.std.proofs.Common.{ap, Err}
 use Rattle.std.proofs.lemmas.Result.{IfOk-weaker, MatchResult-weaker}
 use Rattle.hg_store_tools.proofs.Visits.{visits_all, visits_cut_off, visits_failed, visits_more, visits_none}
 use Rattle.hg_store_tools.proofs.Visits.{visits_unread}

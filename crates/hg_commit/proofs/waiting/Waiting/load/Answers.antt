@@ -1,7 +1,7 @@
 use Rattle.std.proofs.Common.{◌≡◌, ◌≤◌, ◌+◌, ◌∙◌, ℕ, List, [], ◌∷◌, ap, arith, false, inl, inr, length, length-append, subst, sym}
 use Rattle.std.specs.Prelude.{IfNone, Option, vec_len, vec_capacity}
 use mathlib.Core.List.{IsPrefix}
-use Rattle.hg_types.specs.declared.item.Taken.{Taken}
+use Rattle.hg_parts.specs.declared.item.Taken.{Taken}
 use Rattle.hg_store.specs.Entries.{Entry}
 use Rattle.hg_commit.specs.Clients.{AreWritten, Covers}
 use Rattle.hg_commit.specs.Handing.{IfLast, IsFull, MovesTo, Stays}

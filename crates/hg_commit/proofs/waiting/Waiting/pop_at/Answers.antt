@@ -1,7 +1,7 @@
 use Rattle.std.proofs.Common.{◌≡◌, ◌∙◌, List, ap, subst, sym, vec_len, length, rules}
 use Rattle.std.specs.Prelude.{IfSome}
 use Rattle.std.proofs.lemmas.List.Elements.{All-pop}
-use Rattle.hg_types.specs.declared.item.Taken.{Taken}
+use Rattle.hg_parts.specs.declared.item.Taken.{Taken}
 use Rattle.hg_commit.specs.Handing.{Fits, Stays}
 use Rattle.hg_commit.specs.Locks.{WaitingView}
 use Rattle.hg_commit.specs.Records.{IsRecordOf}

@@ -7,6 +7,6 @@ use Rattle.hg_push.proofs.book.Book.place.Goals as goal
 pub returns : goal.returns
 returns g c = λ first h holds.
     tells_place run_push first h _ c.args.push (subst (λ b. HoldsHistory run_push first h b) (sym c.self.view_is) holds)
-    c.last_place.result
-    (rw c.as_slice.ensures.value at c.last_place.ensures.none)
-    (rw c.as_slice.ensures.value at c.last_place.ensures.some)
+    c.place_of_push.result
+    (rw c.as_slice.ensures.value at c.place_of_push.ensures.none)
+    (rw c.as_slice.ensures.value at c.place_of_push.ensures.some)

@@ -1,8 +1,8 @@
-use Rattle.std.proofs.Common.{◌∙◌, List, refl, subst, sym}
+use Rattle.std.proofs.Common.{◌∙◌, List, ap, length, refl, subst, sym}
 use Rattle.hg_types.specs.declared.part.Part.{Part}
 use Rattle.hg_stream.specs.Frames.{IsBundle}
 use Rattle.hg_stream.specs.Unbundler.{limits_of}
-use Rattle.hg_recovery.proofs.Taking.{bundle_taken, fault_taken, less_taken, more_taken}
+use Rattle.hg_recovery.proofs.Taking.{bundle_taken, fault_taken, filled, less_taken, more_taken}
 use Rattle.hg_recovery.proofs.record.RecordIn.into_parts.Goals as goal
 
 pub returns-then-self-clause-err : goal.returns-then-self-clause-err
@@ -15,7 +15,9 @@ returns-then-self-clause-err g c = λ first bytes taken. (
 pub returns-in-Ended-clause-ok : goal.returns-in-Ended-clause-ok
 returns-in-Ended-clause-ok g c = λ first bytes taken.
     subst (λ (parts : List (Part g.row.A.Denot)). IsBundle (limits_of first.bundle) bytes parts)
-    (sym c.in_ok-all_parts-in-Ended.ensures.parts)
+    (sym (filled _ _ _ (c.hash_several_of_each.ensures ∙ c.deref_mut.ensures.value)
+    (sym c.deref_mut.ensures.len ∙ ap length c.deref_mut.ensures.value)
+    ∙ c.in_ok-parts-in-Ended.ensures.parts))
     (bundle_taken first.bundle c.args.self.bundle taken.1 c.args.self.is_past bytes taken.0 c.if-self.false
     (sym c.state.ensures ∙ c.in-Ended.is))
 

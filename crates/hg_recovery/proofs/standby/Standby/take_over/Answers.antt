@@ -1,6 +1,6 @@
-use Rattle.std.proofs.Common.{◌≡◌, ◌∙◌, ◌∷◌, [], Err, List, ap, inl, refl, subst, sym}
+use Rattle.std.proofs.Common.{◌≡◌, ◌∙◌, Err, List, ap, inl, refl, subst, sym}
 use Rattle.std.proofs.lemmas.Result.{err_from_is_err_and}
-use Rattle.hg_store.specs.Calls.{Event, bytes_in, was_held}
+use Rattle.hg_store.specs.Calls.{Event, bytes_in}
 use Rattle.hg_store.specs.Openings.{IsUnopened}
 use Rattle.hg_store.specs.declared.start.StoreFault.{StoreFault}
 use Rattle.hg_recovery.specs.Opening.{setup_for}

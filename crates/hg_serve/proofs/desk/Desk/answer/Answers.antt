@@ -1,6 +1,6 @@
 use Rattle.std.proofs.Common.{◌≡◌, sym, subst, ◌∙◌, List, Some}
 use mathlib.Core.List.{IsPrefix}
-use Rattle.hg_types.specs.declared.item.Taken.{Taken}
+use Rattle.hg_parts.specs.declared.item.Taken.{Taken}
 use Rattle.hg_queue.specs.History.{of, items_of}
 use Rattle.hg_queue.specs.Words.{claim_at, seen}
 use Rattle.hg_push.specs.declared.outcome.Outcome.TheVariants.{Aborted}

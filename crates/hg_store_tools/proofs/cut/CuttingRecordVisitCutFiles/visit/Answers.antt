@@ -1,4 +1,3 @@
-use Rattle.std.proofs.lemmas.Result.{on_ok_weaker}
 use Rattle.hg_store_tools.proofs.Cuts.{cuts_after_ok, cuts_before_ok}
 use Rattle.hg_store_tools.proofs.cut.CuttingRecordVisitCutFiles.visit.Goals as goal
 

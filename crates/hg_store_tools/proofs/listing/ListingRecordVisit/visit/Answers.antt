@@ -1,7 +1,7 @@
-use Rattle.std.proofs.Common.{List, ℕ, inl, refl, subst}
+use Rattle.std.proofs.Common.{inl, refl, subst}
 use Rattle.std.proofs.lemmas.Result.{MatchResult-weaker, on_ok_weaker}
 use Rattle.std.specs.Prelude.{OnOk}
-use Rattle.hg_store_tools.specs.Listing.{IsLine, ListForm, ListsNoRecord, ListsRecord}
+use Rattle.hg_store_tools.specs.Listing.{ListForm, ListsNoRecord, ListsRecord}
 use Rattle.hg_store_tools.proofs.Lists.{lists_front, lists_none, lists_record}
 use Rattle.hg_store_tools.proofs.listing.ListingRecordVisit.visit.Goals as goal
 

@@ -1,7 +1,7 @@
 //! What a push sends, one item after another.
 
-use crate::boxed::BoxedPart;
-use crate::memory::{NoMemory, TryClone};
+use crate::sent::SentPart;
+use hg_types::{NoMemory, TryClone};
 use std::alloc::{Allocator, Global};
 
 /// Why a push was cut off.
@@ -18,7 +18,7 @@ pub enum CutReason {
 /// What an item is: a part, the end mark, or the mark of a push that was cut off.
 #[derive(Drop)]
 pub enum What<A: Allocator = Global> {
-    Part(BoxedPart<A>),
+    Part(SentPart<A>),
     End,
     Cut(CutReason),
 }

@@ -1,0 +1,5 @@
+use Rattle.hg_digests.proofs.LaneLemmas.{ch_lanes}
+use Rattle.hg_digests.proofs.rounds.ch.Goals as goal
+
+pub returns : goal.returns
+returns c = ch_lanes c.args.x c.args.y c.args.z c.fits-x.0 c.fits-y.0 c.fits-z.0

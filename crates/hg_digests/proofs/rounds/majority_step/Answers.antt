@@ -1,0 +1,12 @@
+use Rattle.std.proofs.Common.{◌∙◌, sym, arith}
+use Rattle.sha1.proofs.Schedule.{round_fn_majority, round_constant_majority}
+use Rattle.hg_digests.specs.code.Lanes.{lane_at, own}
+use Rattle.hg_digests.proofs.LaneLemmas.{lane_step}
+use Rattle.hg_digests.proofs.rounds.majority_step.Goals as goal
+
+pub returns : goal.returns
+returns c = λ blocks hashes held j h.
+    lane_step (own blocks j) (own hashes j) c.args.w.now c.args.v c.args.t _ j c.maj.result c.next_word-word.result _ _ (omega arith) (omega arith) (held j h)
+    (c.next_word-word.ensures.value j h) c.next_word-word.ensures.window
+    (c.maj.ensures j h ∙ sym (round_fn_majority c.args.t (lane_at c.args.v 1 j) (lane_at c.args.v 2 j) (lane_at c.args.v 3 j) (omega arith) (omega arith)))
+    (sym (round_constant_majority c.args.t (omega arith) (omega arith))) (c.round.ensures j h)
